@@ -1,7 +1,7 @@
 -- A file read list by list: what was read so far, and what comes of the next list.
-use Rattle.std.proofs.Common.{◌≡◌, ◌≢◌, ℕ, ◌+◌, ◌-◌, ◌^◌, ◌<◌, ◌≤◌, Bool, true, false, cond, List, [], ◌∷◌, ◌++◌, length, None, Some, Option, refl, ap, ◌∙◌, sym, subst, arith, decimal, All, inl, inr, append_assoc, append-nil, length-append}
+use Rattle.std.proofs.Common.{◌≡◌, ◌≢◌, ℕ, ◌+◌, ◌-◌, ◌^◌, ◌<◌, ◌≤◌, Bool, true, false, cond, List, [], ◌∷◌, ◌++◌, length, None, Some, Option, refl, ap, ◌∙◌, sym, subst, arith, decimal, All, ◌⊎◌, inl, inr, append_assoc, append-nil, length-append}
 use Rattle.std.specs.Prelude.{◌||◌, ◌&&◌, ◌==◌, not, nat_lt}
-use Rattle.std.proofs.lemmas.Bool.{le-ltb}
+use Rattle.std.proofs.lemmas.Bool.{le-ltb, lt-ltb}
 use Rattle.std.proofs.lemmas.List.Elements.{All-nil, All-push}
 use Rattle.std.proofs.lemmas.List.Sums.{sum_by_push}
 use Rattle.ded_io.specs.Written.{◌⧺◌}
@@ -14,7 +14,7 @@ use Rattle.text_lines.proofs.Capping.{capped-small, capped-large}
 use Rattle.text_lines.proofs.Marking.{cut-parts}
 use Rattle.text_lines.proofs.Spelling.{word-of_natural}
 use Rattle.seq_file.specs.declared.errors.SeqError.{SeqError}
-use Rattle.seq_file.specs.declared.errors.SeqError.TheVariants.{BadLine, AfterEnd}
+use Rattle.seq_file.specs.declared.errors.SeqError.TheVariants.{BadLine, OtherProgram, BadNumber, AfterEnd, TooMany, Memory}
 use Rattle.seq_file.specs.declared.list_reading.Place.{Place}
 use Rattle.seq_file.specs.Short.{IsShort}
 use Rattle.seq_file.specs.Known.{is_known}
@@ -146,6 +146,21 @@ inside-fault numbers task start place events left error to some fault = inr reco
       ∙ fault;
 }
 
+some-either : (b : Bool) (x y : SeqError) → cond b (Some x) (Some y) ≡ Some (cond b x y)
+some-either true x y = refl
+some-either false x y = refl
+
+-- another line than the list's
+pub head-fault : (numbers : Numbering) (task : ℕ) (place : Place) (error : SeqError) → task < list_count numbers → begins_list task place.rest.now ≡ false →
+    error ≡ cond (place.ended && not (length place.rest.now == 0)) (AfterEnd place.line) (BadLine place.line) → FailsAtList numbers task place error
+head-fault numbers task place error next other is_error =
+    let behind : Bool = place.ended && not (length place.rest.now == 0) in
+    let fault : Option SeqError = cond behind (Some (AfterEnd place.line)) (Some (BadLine place.line)) in
+    inl (ap (λ b. cond b (cond (begins_list task place.rest.now) None fault) (cond (length place.rest.now == 0) None (Some (AfterEnd place.line)))) (lt-ltb task (list_count numbers) next)
+    ∙ ap (λ b. cond b None fault) other
+    ∙ some-either behind (AfterEnd place.line) (BadLine place.line)
+    ∙ ap Some (sym is_error))
+
 -- ---- list by list
 
 -- The file is read up to a place: its header, and these lists.
@@ -251,3 +266,28 @@ lists-behind bytes numbers names lists place to all some =
           ∙ ap (λ b. cond b None (Some (AfterEnd (line_behind lists)))) some
           ∙ ap (λ n. Some (AfterEnd n)) (sym to.line);
     })
+
+-- the fault of the next task's list
+pub task-fault : (bytes : List ℕ) (numbers : Numbering) (names : List (List ℕ)) (lists : List (List Event)) (place : Place) (task : ℕ) (error : SeqError) → AreRead bytes numbers names lists place → length lists ≡ task → task < list_count numbers →
+    FailsAtList numbers task place error → HasFirstListFault bytes numbers names error
+task-fault bytes numbers names lists place task error to count next fails =
+    lists-fault bytes numbers names lists place error to (omega (arith, count, next)) (subst (λ n. FailsAtList numbers n place error) (sym count) fails)
+
+-- the next task's list
+pub task-more : (bytes : List ℕ) (numbers : Numbering) (names : List (List ℕ)) (lists : List (List Event)) (place next : Place) (task : ℕ) (events : List Event) → AreRead bytes numbers names lists place → length lists ≡ task → task < list_count numbers →
+    IsNextList numbers task place events next → AreRead bytes numbers names (lists ++ (events ∷ [])) next
+task-more bytes numbers names lists place next task events to count more list =
+    lists-more bytes numbers names lists place next events to (omega (arith, count, more)) (subst (λ n. IsNextList numbers n place events next) (sym count) list)
+
+abbrev is_memory : SeqError → Bool
+is_memory Memory = true
+is_memory _ = false
+
+-- memory is wanting or not
+pub memory-cases : (error : SeqError) → (error ≡ Memory) ⊎ (error ≢ Memory)
+memory-cases Memory = inl refl
+memory-cases (BadLine n) = inr (λ e. clash (ap is_memory e))
+memory-cases (OtherProgram n) = inr (λ e. clash (ap is_memory e))
+memory-cases (BadNumber n) = inr (λ e. clash (ap is_memory e))
+memory-cases (AfterEnd n) = inr (λ e. clash (ap is_memory e))
+memory-cases (TooMany n) = inr (λ e. clash (ap is_memory e))

@@ -1,13 +1,13 @@
 // Reading a sequence file by tasks.
 
-ghost use Rattle.std.specs.Prelude.{◌≡◌, ◌≢◌, ◌<◌, ◌≤◌, ◌+◌, ◌-◌, ◌^◌, ◌++◌, [], ◌∷◌, ℕ, OnOk, List, length, map, IfOk, IfErr, IfSome, MatchOption, MatchResult, true, false, Option, Some, option_map, nat_lt, ◌&&◌, if◌then◌else◌};
+ghost use Rattle.std.specs.Prelude.{◌≡◌, ◌≢◌, ◌<◌, ◌≤◌, ◌+◌, ◌-◌, ◌^◌, ◌++◌, [], ◌∷◌, ℕ, OnOk, List, length, map, IfOk, IfErr, IfSome, MatchOption, MatchResult, true, false, Option, Some, option_map, nat_lt, ◌&&◌, ◌==◌, not, if◌then◌else◌};
 ghost use Rattle.event_machine.specs.declared.Event.{Event};
 ghost use Rattle.syn_event.specs.DeclaredTasks.{text_of};
 ghost use Rattle.text_lines.specs.Capped.{capped};
 ghost use Rattle.seq_file.specs.declared.errors.SeqError.{SeqError};
 ghost use Rattle.seq_file.specs.declared.errors.SeqError.TheVariants.{Memory, BadLine, AfterEnd};
 ghost use Rattle.seq_file.specs.Lines.{is_upper_name};
-ghost use Rattle.seq_file.specs.Lists.{ListReads, HasFirstListFault, is_in_lists, list_count, list_header_fault, writes_number, asked_by_line, begins_list, most_listed, next_list_fault, next_event_fault};
+ghost use Rattle.seq_file.specs.Lists.{ListReads, HasFirstListFault, is_in_lists, list_count, list_header_fault, writes_number, asked_by_line, begins_list, most_listed, next_event_fault};
 ghost use Rattle.seq_file.specs.Short.{IsShort};
 ghost use Rattle.seq_file.specs.inner.NextLists.{IsBehindListHeader, IsListHead, IsBehindEvent, IsNextListed, IsNextList, FailsAtList};
 
@@ -73,8 +73,8 @@ pub fn read_lists(
         ended: false,
     };
     let mut lists = Vec::new(alloc);
-    while (lists.len() as u64) < count {
-        let (events, behind) = match read_list(alloc, &place, numbers, lists.len() as u64) {
+    for task in 0..count {
+        let (events, behind) = match read_list(alloc, &place, numbers, task) {
             Ok(next) => next,
             Err(error) => return Err(error),
         };
@@ -137,6 +137,7 @@ fn read_list<'a>(
     requires few { place.now.events ≤ most_listed }
     requires task { task < list_count numbers.now }
     requires small { list_count numbers.now ≤ 2 ^ 32 }
+    requires short { IsShort numbers.now }
     ensures read { IfOk result (λ x. IsNextList numbers.now task place.now x.0.items x.1) }
     ensures fault { IfErr result (λ error. error ≢ Memory → FailsAtList numbers.now task place.now error) }
 {
@@ -165,8 +166,7 @@ fn read_list<'a>(
 
 // The fault of another line than that of the next list.
 fn list_error(place: &Place) -> SeqError
-    ensures { (count task : ℕ) → task < count → begins_list task place.now.rest.now ≡ false
-        → next_list_fault count task place.now.ended place.now.line place.now.rest.now ≡ Some result }
+    ensures { result ≡ (if place.now.ended && not (length place.now.rest.now == 0) then AfterEnd place.now.line else BadLine place.now.line) }
 {
     if place.ended && !place.rest.is_empty() {
         SeqError::AfterEnd { line: place.line }
@@ -260,7 +260,7 @@ fn behind_event<'a>(place: &Place, event: &Event, rest: &'a [u8]) -> Place<'a>
 // The fault of a line behind `Z` where the list of a task should have more events.
 fn behind_end(place: &Place, numbers: &Numbers, task: u64) -> SeqError
     requires { task < 2 ^ 32 }
-    ensures { (if nat_lt (task + 1) (list_count numbers.now) && begins_list (task + 1) place.now.rest.now then BadLine place.now.line else AfterEnd place.now.line) ≡ result }
+    ensures { result ≡ (if nat_lt (task + 1) (list_count numbers.now) && begins_list (task + 1) place.now.rest.now then BadLine place.now.line else AfterEnd place.now.line) }
 {
     if task + 1 < list_count(numbers) && list_head(place.rest, task + 1).is_some() {
         SeqError::BadLine { line: place.line }
