@@ -169,7 +169,7 @@ list_header-cut names numbers short hm bytes rest h =
     let line : List ℕ = header_text (codes "2") (text_of names numbers.main) (original_tasks numbers) (original_entries numbers) in (
       line,
       ap (cut is_line_end) (h ∙ list_header-line names numbers rest)
-      ∙ cut-at_mark 10 line rest (header-free (codes "2") (text_of names numbers.main) (original_tasks numbers) (original_entries numbers) second-format hm (tasks-small numbers short) (entries-small numbers short)),
+          ∙ cut-at_mark 10 line rest (header-free (codes "2") (text_of names numbers.main) (original_tasks numbers) (original_entries numbers) second-format hm (tasks-small numbers short) (entries-small numbers short)),
     )
 
 pub list_header-sound : (names : List (List ℕ)) (numbers : Numbering) → IsShort numbers → is_upper_name (text_of names numbers.main) ≡ true →

@@ -82,7 +82,7 @@ asked-words task (w ∷ k ∷ c ∷ []) n small h =
           let both = and_parts (bytes_eq w (codes "task")) (writes_number task k) yes' in (
             c,
             ap (λ x. x ++ (32 ∷ (k ++ (32 ∷ c)))) ((bytes_eq-Decides w (codes "task")).0 both.0)
-            ∙ ap (λ x. codes "task " ++ (x ++ (32 ∷ c))) (number-by task k (natural k) refl small both.1),
+                ∙ ap (λ x. codes "task " ++ (x ++ (32 ∷ c))) (number-by task k (natural k) refl small both.1),
             sym (ap (λ b. cond b (natural c) None) yes') ∙ h,
           )
       | inr no' ↦ clash (ap is_some (sym (ap (λ b. cond b (natural c) None) no') ∙ h))

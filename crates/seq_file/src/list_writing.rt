@@ -32,11 +32,7 @@ pub fn write_lists<K: Sink>(
 
 // Appends the first line.
 #[tactic(auto, using(ded_io::proofs::Writes::writes))]
-fn put_list_header<K: Sink>(
-    numbers: &Numbers,
-    names: &Names,
-    out: &mut K,
-) -> Result<(), SinkError>
+fn put_list_header<K: Sink>(numbers: &Numbers, names: &Names, out: &mut K) -> Result<(), SinkError>
     ensures bytes { Wrote result (K.told out.old) (K.told out.new) (list_header_line names.now numbers.now) }
     ensures cause { HasCause (K.faults out.old) (K.faults out.new) result }
 {
