@@ -68,7 +68,8 @@ with-none (Err error) = refl
 task-small : (numbers : Numbering) → IsShort numbers → (task : ℕ) → task < list_count numbers → task < 2 ^ 64
 task-small numbers short task h = omega (arith, h, tasks-small numbers short)
 
-head-sound : (numbers : Numbering) → IsShort numbers → (task line : ℕ) (ended : Bool) (word rest : List ℕ) (n : ℕ) → natural word ≡ Some n → task < list_count numbers →
+head-sound : (numbers : Numbering) → IsShort numbers → (task line : ℕ) (ended : Bool) (word rest : List ℕ) (n : ℕ) → natural word ≡ Some n →
+    task < list_count numbers →
     next_list_fault (list_count numbers) task ended line (task_line task word ++ rest) ≡ None
 head-sound numbers short task line ended word rest n asks next =
     let text : List ℕ = task_line task word ++ rest in
@@ -76,14 +77,17 @@ head-sound numbers short task line ended word rest n asks next =
     ap (λ b. cond b (cond (begins_list task text) None other) (cond (length text == 0) None (Some (AfterEnd line)))) (lt-ltb task (list_count numbers) next)
     ∙ ap (λ b. cond b None other) (begins-there task word rest n (task-small numbers short task next) asks)
 
-asked-is : (numbers : Numbering) → IsShort numbers → (task : ℕ) (word rest : List ℕ) (n : ℕ) → natural word ≡ Some n → task < list_count numbers → asked_at task (task_line task word ++ rest) ≡ n
+asked-is : (numbers : Numbering) → IsShort numbers → (task : ℕ) (word rest : List ℕ) (n : ℕ) → natural word ≡ Some n → task < list_count numbers →
+    asked_at task (task_line task word ++ rest) ≡ n
 asked-is numbers short task word rest n asks next = ap (λ o. unwrap_or o 0) (asked-there task word rest n (task-small numbers short task next) asks)
 
-head-behind : (numbers : Numbering) → IsShort numbers → (task : ℕ) (word rest : List ℕ) (n : ℕ) → natural word ≡ Some n → task < list_count numbers → behind_line (task_line task word ++ rest) ≡ rest
+head-behind : (numbers : Numbering) → IsShort numbers → (task : ℕ) (word rest : List ℕ) (n : ℕ) → natural word ≡ Some n → task < list_count numbers →
+    behind_line (task_line task word ++ rest) ≡ rest
 head-behind numbers short task word rest n asks next = ap right_of (task-cut task word rest n (task-small numbers short task next) asks)
 
 -- where a list begins, its events are taken, and then what is left
-list-begun : (numbers : Numbering) → IsShort numbers → (more task before line : ℕ) (ended : Bool) (word rest : List ℕ) (n : ℕ) → natural word ≡ Some n → task < list_count numbers →
+list-begun : (numbers : Numbering) → IsShort numbers → (more task before line : ℕ) (ended : Bool) (word rest : List ℕ) (n : ℕ) → natural word ≡ Some n →
+    task < list_count numbers →
     take_lists numbers (suc more) task ended before line (task_line task word ++ rest)
     ≡ then_lists (take_events numbers task n false before (line + 1) rest)
     (λ events behind. with_lists (events ∷ []) (take_lists numbers more (task + 1) (has_ended events) (before + length events) (line + length events + 1) behind))
@@ -96,7 +100,8 @@ list-begun numbers short more task before line ended word rest n asks next =
     ∙ ap (λ t. then_lists (take_events numbers task n false before (line + 1) t) go) (head-behind numbers short task word rest n asks next)
 
 -- a whole list is taken
-list-taken : (numbers : Numbering) → IsShort numbers → (task before line : ℕ) (events : List Event) (rest : List ℕ) → IsListFit numbers events → before + length events ≤ most_listed →
+list-taken : (numbers : Numbering) → IsShort numbers → (task before line : ℕ) (events : List Event) (rest : List ℕ) → IsListFit numbers events →
+    before + length events ≤ most_listed →
     take_events numbers task (length events) false before line (lines events ++ rest) ≡ Ok (events, rest)
 list-taken numbers short task before line events rest fit few =
     let all : length events ≡ beyond events 0 = omega (arith, beyond-is events 0) in
@@ -105,7 +110,8 @@ list-taken numbers short task before line events rest fit few =
     ∙ ap (λ t. Ok (t, rest)) (append-nil events)
 
 -- whole lists that may stand in a file are taken, and then what is left
-lists-taken : (numbers : Numbering) → IsShort numbers → (more task before line t b l : ℕ) (ended : Bool) (lists : List (List Event)) (rest : List ℕ) → task + length lists ≤ list_count numbers → All (IsListFit numbers) lists →
+lists-taken : (numbers : Numbering) → IsShort numbers → (more task before line t b l : ℕ) (ended : Bool) (lists : List (List Event)) (rest : List ℕ) →
+    task + length lists ≤ list_count numbers → All (IsListFit numbers) lists →
     before + listed lists ≤ most_listed → t ≡ task + length lists → b ≡ before + listed lists → l ≡ line + length lists + listed lists →
     take_lists numbers (beyond lists more) task ended before line (lists_text task lists ++ rest) ≡ with_lists lists (take_lists numbers more t (last_ended ended lists) b l rest)
 lists-taken numbers short more task before line t b l ended [] rest count each few et eb el =
@@ -144,7 +150,8 @@ abbrev outcome : List (List ℕ) → Numbering → List ℕ → Result (List (Li
 outcome names numbers bytes = fail_or (list_header_fault names numbers bytes) (take_lists numbers (list_count numbers) 0 false 0 2 (behind_line bytes))
 
 -- behind whole lists comes what is left
-outcome-behind : (names : List (List ℕ)) (numbers : Numbering) → IsShort numbers → is_upper_name (text_of names numbers.main) ≡ true → (bytes : List ℕ) (lists : List (List Event)) (rest : List ℕ) → IsBehindLists bytes numbers names lists rest →
+outcome-behind : (names : List (List ℕ)) (numbers : Numbering) → IsShort numbers → is_upper_name (text_of names numbers.main) ≡ true →
+    (bytes : List ℕ) (lists : List (List Event)) (rest : List ℕ) → IsBehindLists bytes numbers names lists rest →
     outcome names numbers bytes ≡ with_lists lists (take_lists numbers (list_count numbers - length lists) (length lists) (last_ended false lists) (listed lists) (line_behind lists) rest)
 outcome-behind names numbers short hm bytes lists rest at =
     let left : ℕ = list_count numbers - length lists in
@@ -162,13 +169,15 @@ outcome-behind names numbers short hm bytes lists rest at =
     ∙ ap (λ n. take_lists numbers n 0 false 0 2 text) all
     ∙ lists-taken numbers short left 0 0 2 (length lists) (listed lists) (line_behind lists) false lists rest count at.each few et eb el
 
-lists-stop : (numbers : Numbering) (more task before line : ℕ) (ended : Bool) (rest : List ℕ) (error : SeqError) → next_list_fault (list_count numbers) task ended line rest ≡ Some error → take_lists numbers more task ended before line rest ≡ Err error
+lists-stop : (numbers : Numbering) (more task before line : ℕ) (ended : Bool) (rest : List ℕ) (error : SeqError) →
+    next_list_fault (list_count numbers) task ended line rest ≡ Some error → take_lists numbers more task ended before line rest ≡ Err error
 lists-stop numbers zero task before line ended rest error h = ap (λ o. fail_or o (Ok [])) h
 lists-stop numbers (suc more) task before line ended rest error h =
     ap (λ o. fail_or o (then_lists (take_events numbers task (asked_at task rest) false before (line + 1) (behind_line rest))
     (λ events behind. with_lists (events ∷ []) (take_lists numbers more (task + 1) (has_ended events) (before + length events) (line + length events + 1) behind)))) h
 
-lists-end : (numbers : Numbering) (more task before line : ℕ) (ended : Bool) (rest : List ℕ) → more ≡ 0 → next_list_fault (list_count numbers) task ended line rest ≡ None → take_lists numbers more task ended before line rest ≡ Ok []
+lists-end : (numbers : Numbering) (more task before line : ℕ) (ended : Bool) (rest : List ℕ) → more ≡ 0 →
+    next_list_fault (list_count numbers) task ended line rest ≡ None → take_lists numbers more task ended before line rest ≡ Ok []
 lists-end numbers zero task before line ended rest none h = ap (λ o. fail_or o (Ok [])) h
 lists-end numbers (suc more) task before line ended rest none h = absurd (omega (arith, none))
 
@@ -178,7 +187,8 @@ none-left numbers task line ended same =
     ap (λ b. cond b (cond (begins_list task []) None (cond (ended && false) (Some (AfterEnd line)) (Some (BadLine line)))) None)
     (le-ltb task (list_count numbers) (omega (arith, same)))
 
-reads-outcome : (names : List (List ℕ)) (numbers : Numbering) → IsShort numbers → is_upper_name (text_of names numbers.main) ≡ true → (bytes : List ℕ) (lists : List (List Event)) → ListReads bytes numbers names lists →
+reads-outcome : (names : List (List ℕ)) (numbers : Numbering) → IsShort numbers → is_upper_name (text_of names numbers.main) ≡ true →
+    (bytes : List ℕ) (lists : List (List Event)) → ListReads bytes numbers names lists →
     outcome names numbers bytes ≡ Ok lists
 reads-outcome names numbers short hm bytes lists reads =
     let at : IsBehindLists bytes numbers names lists [] = record {
@@ -194,7 +204,8 @@ reads-outcome names numbers short hm bytes lists reads =
     (none-left numbers (length lists) (line_behind lists) (last_ended false lists) reads.fit.count))
     ∙ ap Ok (append-nil lists)
 
-behind-outcome : (names : List (List ℕ)) (numbers : Numbering) → IsShort numbers → is_upper_name (text_of names numbers.main) ≡ true → (bytes : List ℕ) (error : SeqError) → FailsBehindLists bytes numbers names error →
+behind-outcome : (names : List (List ℕ)) (numbers : Numbering) → IsShort numbers → is_upper_name (text_of names numbers.main) ≡ true →
+    (bytes : List ℕ) (error : SeqError) → FailsBehindLists bytes numbers names error →
     outcome names numbers bytes ≡ Err error
 behind-outcome names numbers short hm bytes error fails =
     let lists = fails.lists in
@@ -202,11 +213,14 @@ behind-outcome names numbers short hm bytes error fails =
     ∙ ap (with_lists lists)
     (lists-stop numbers (list_count numbers - length lists) (length lists) (listed lists) (line_behind lists) (last_ended false lists) fails.rest error fails.fault)
 
-events-stop : (numbers : Numbering) (left task before line : ℕ) (ended : Bool) (rest : List ℕ) (error : SeqError) → next_event_fault numbers task ended before line rest ≡ Some error → take_events numbers task (suc left) ended before line rest ≡ Err error
+events-stop : (numbers : Numbering) (left task before line : ℕ) (ended : Bool) (rest : List ℕ) (error : SeqError) →
+    next_event_fault numbers task ended before line rest ≡ Some error → take_events numbers task (suc left) ended before line rest ≡ Err error
 events-stop numbers left task before line ended rest error h =
     ap (λ o. fail_or o (with_events (event_at rest ∷ []) (take_events numbers task left (is_end (event_at rest)) (before + 1) (line + 1) (behind_line rest)))) h
 
-list-stop : (numbers : Numbering) → IsShort numbers → (more task before line : ℕ) (ended : Bool) (list : List ℕ) (asked : ℕ) (events : List Event) (rest : List ℕ) (error : SeqError) → task < list_count numbers →
+list-stop : (numbers : Numbering) → IsShort numbers →
+    (more task before line : ℕ) (ended : Bool) (list : List ℕ) (asked : ℕ) (events : List Event) (rest : List ℕ) (error : SeqError) →
+    task < list_count numbers →
     IsInList numbers task before list asked events rest → next_event_fault numbers task (has_ended events) (before + length events) (line + length events + 1) rest ≡ Some error →
     take_lists numbers (suc more) task ended before line list ≡ Err error
 list-stop numbers short more task before line ended list asked events rest error next at fault =
@@ -222,7 +236,8 @@ list-stop numbers short more task before line ended list asked events rest error
     ∙ events-taken numbers short task (suc left) false before (line + 1) (before + length events) (line + length events + 1) events rest at.fit.known at.fit.end (λ e. clash e) at.few refl el
     ∙ ap (with_events events) (events-stop numbers left task (before + length events) (line + length events + 1) (has_ended events) rest error fault))
 
-within-outcome : (names : List (List ℕ)) (numbers : Numbering) → IsShort numbers → is_upper_name (text_of names numbers.main) ≡ true → (bytes : List ℕ) (error : SeqError) → FailsInList bytes numbers names error →
+within-outcome : (names : List (List ℕ)) (numbers : Numbering) → IsShort numbers → is_upper_name (text_of names numbers.main) ≡ true →
+    (bytes : List ℕ) (error : SeqError) → FailsInList bytes numbers names error →
     outcome names numbers bytes ≡ Err error
 within-outcome names numbers short hm bytes error fails =
     let lists = fails.lists in
@@ -233,7 +248,8 @@ within-outcome names numbers short hm bytes error fails =
     (ap (λ n. take_lists numbers n (length lists) (last_ended false lists) (listed lists) (line_behind lists) fails.list) some
     ∙ list-stop numbers short more (length lists) (listed lists) (line_behind lists) (last_ended false lists) fails.list fails.asked fails.events fails.rest error fails.next fails.at fails.fault)
 
-fault-outcome : (names : List (List ℕ)) (numbers : Numbering) → IsShort numbers → is_upper_name (text_of names numbers.main) ≡ true → (bytes : List ℕ) (error : SeqError) → HasFirstListFault bytes numbers names error →
+fault-outcome : (names : List (List ℕ)) (numbers : Numbering) → IsShort numbers → is_upper_name (text_of names numbers.main) ≡ true →
+    (bytes : List ℕ) (error : SeqError) → HasFirstListFault bytes numbers names error →
     outcome names numbers bytes ≡ Err error
 fault-outcome names numbers short hm bytes error (inl fault) =
     ap (λ o. fail_or o (take_lists numbers (list_count numbers) 0 false 0 2 (behind_line bytes))) fault
@@ -241,19 +257,22 @@ fault-outcome names numbers short hm bytes error (inr (inl fails)) = behind-outc
 fault-outcome names numbers short hm bytes error (inr (inr fails)) = within-outcome names numbers short hm bytes error fails
 
 -- A file by tasks has one list of lists.
-pub lists-unique : (names : List (List ℕ)) (numbers : Numbering) → IsShort numbers → is_upper_name (text_of names numbers.main) ≡ true → (bytes : List ℕ) (xs ys : List (List Event)) →
+pub lists-unique : (names : List (List ℕ)) (numbers : Numbering) → IsShort numbers → is_upper_name (text_of names numbers.main) ≡ true →
+    (bytes : List ℕ) (xs ys : List (List Event)) →
     ListReads bytes numbers names xs → ListReads bytes numbers names ys → xs ≡ ys
 lists-unique names numbers short hm bytes xs ys rx ry =
     ap (result_or []) (sym (reads-outcome names numbers short hm bytes xs rx) ∙ reads-outcome names numbers short hm bytes ys ry)
 
 -- It has no first fault.
-pub lists-no_fault : (names : List (List ℕ)) (numbers : Numbering) → IsShort numbers → is_upper_name (text_of names numbers.main) ≡ true → (bytes : List ℕ) (xs : List (List Event)) (error : SeqError) →
+pub lists-no_fault : (names : List (List ℕ)) (numbers : Numbering) → IsShort numbers → is_upper_name (text_of names numbers.main) ≡ true →
+    (bytes : List ℕ) (xs : List (List Event)) (error : SeqError) →
     ListReads bytes numbers names xs → HasFirstListFault bytes numbers names error → ⊥
 lists-no_fault names numbers short hm bytes xs error reads fault =
     clash (ap failed (sym (reads-outcome names numbers short hm bytes xs reads) ∙ fault-outcome names numbers short hm bytes error fault))
 
 -- A file has one first fault.
-pub list_fault-unique : (names : List (List ℕ)) (numbers : Numbering) → IsShort numbers → is_upper_name (text_of names numbers.main) ≡ true → (bytes : List ℕ) (e f : SeqError) →
+pub list_fault-unique : (names : List (List ℕ)) (numbers : Numbering) → IsShort numbers → is_upper_name (text_of names numbers.main) ≡ true →
+    (bytes : List ℕ) (e f : SeqError) →
     HasFirstListFault bytes numbers names e → HasFirstListFault bytes numbers names f → e ≡ f
 list_fault-unique names numbers short hm bytes e f he hf =
     ap (error_or e) (sym (fault-outcome names numbers short hm bytes e he) ∙ fault-outcome names numbers short hm bytes f hf)

@@ -52,7 +52,8 @@ none-fit : (numbers : Numbering) → IsListFit numbers []
 none-fit numbers = record { known = All-nil (λ event. is_known numbers event ≡ true); end = tt }
 
 -- behind the line of the list
-pub inside-start : (numbers : Numbering) (task : ℕ) (start place : Place) (asked : ℕ) → task < 2 ^ 64 → IsListHead task start.rest.now asked place.rest.now → start.events ≤ most_listed →
+pub inside-start : (numbers : Numbering) (task : ℕ) (start place : Place) (asked : ℕ) → task < 2 ^ 64 →
+    IsListHead task start.rest.now asked place.rest.now → start.events ≤ most_listed →
     place.line ≡ start.line + 1 → place.events ≡ start.events → place.ended ≡ false → IsReadInList numbers task start [] place asked
 inside-start numbers task start place asked small head few el ec ee =
     let (word, written, asks) = asked-written task head.line head.number small head.asks in
@@ -72,7 +73,9 @@ inside-start numbers task start place asked small head few el ec ee =
     }
 
 -- one event more
-pub inside-more : (numbers : Numbering) → IsShort numbers → (task : ℕ) (start place next : Place) (events : List Event) (event : Event) (left less : ℕ) → IsReadInList numbers task start events place left → IsNextListed numbers place event next →
+pub inside-more : (numbers : Numbering) → IsShort numbers →
+    (task : ℕ) (start place next : Place) (events : List Event) (event : Event) (left less : ℕ) → IsReadInList numbers task start events place left →
+    IsNextListed numbers place event next →
     left ≡ less + 1 → IsReadInList numbers task start (events ++ (event ∷ [])) next less
 inside-more numbers short task start place next events event left less to listed el =
     let line : IsEventLine numbers place.rest.now event next.rest.now = listed.next in
@@ -110,7 +113,8 @@ unfolding capped
 capped-more n k h = omega (arith, h)
 
 -- the whole list
-pub inside-end : (numbers : Numbering) (task : ℕ) (start place : Place) (events : List Event) (left : ℕ) → IsReadInList numbers task start events place left → left ≡ 0 → IsNextList numbers task start events place
+pub inside-end : (numbers : Numbering) (task : ℕ) (start place : Place) (events : List Event) (left : ℕ) →
+    IsReadInList numbers task start events place left → left ≡ 0 → IsNextList numbers task start events place
 inside-end numbers task start place events left to none =
     let exact : to.asked ≡ length events = capped-exact to.asked (length events) (omega (arith, to.cap, none)) (omega (arith, to.few)) in
     let word : to.word ≡ decimal (length events) = word-of_natural to.word (length events) (to.asks ∙ ap Some exact) (omega (arith, to.few)) in
@@ -125,7 +129,8 @@ inside-end numbers task start place events left to none =
     }
 
 -- the fault of the next line, or of the file's early end
-pub inside-fault : (numbers : Numbering) (task : ℕ) (start place : Place) (events : List Event) (left : ℕ) (error : SeqError) → IsReadInList numbers task start events place left → 0 < left →
+pub inside-fault : (numbers : Numbering) (task : ℕ) (start place : Place) (events : List Event) (left : ℕ) (error : SeqError) →
+    IsReadInList numbers task start events place left → 0 < left →
     next_event_fault numbers task place.ended place.events place.line place.rest.now ≡ Some error → FailsAtList numbers task start error
 inside-fault numbers task start place events left error to some fault = inr record {
   asked = to.asked;
@@ -172,7 +177,8 @@ pub record AreRead (bytes : List ℕ) (numbers : Numbering) (names : List (List 
   pub room : place.line + length place.rest.now < 2 ^ 32
 
 -- behind the header
-pub lists-start : (bytes : List ℕ) (numbers : Numbering) (names : List (List ℕ)) (place : Place) → IsShort numbers → length bytes < 2 ^ 32 - 1 → IsBehindListHeader names numbers bytes place.rest.now →
+pub lists-start : (bytes : List ℕ) (numbers : Numbering) (names : List (List ℕ)) (place : Place) → IsShort numbers → length bytes < 2 ^ 32 - 1 →
+    IsBehindListHeader names numbers bytes place.rest.now →
     place.line ≡ 2 → place.events ≡ 0 → place.ended ≡ false → AreRead bytes numbers names [] place
 lists-start bytes numbers names place short room header el ec ee =
     let whole : bytes ≡ list_header_line names numbers ++ place.rest.now = list_header-begins names numbers short bytes header.line place.rest.now header.cuts header.sound in
@@ -194,7 +200,8 @@ last_ended-push ended [] events = refl
 last_ended-push ended (first ∷ lists) events = last_ended-push (has_ended first) lists events
 
 -- one list more
-pub lists-more : (bytes : List ℕ) (numbers : Numbering) (names : List (List ℕ)) (lists : List (List Event)) (place next : Place) (events : List Event) → AreRead bytes numbers names lists place → length lists < list_count numbers →
+pub lists-more : (bytes : List ℕ) (numbers : Numbering) (names : List (List ℕ)) (lists : List (List Event)) (place next : Place) (events : List Event) →
+    AreRead bytes numbers names lists place → length lists < list_count numbers →
     IsNextList numbers (length lists) place events next → AreRead bytes numbers names (lists ++ (events ∷ [])) next
 lists-more bytes numbers names lists place next events to more list =
     let total : listed (lists ++ (events ∷ [])) ≡ listed lists + length events = sum_by_push length lists events in
@@ -213,7 +220,8 @@ lists-more bytes numbers names lists place next events to more list =
     }
 
 -- all lists
-pub lists-end : (bytes : List ℕ) (numbers : Numbering) (names : List (List ℕ)) (lists : List (List Event)) (place : Place) → AreRead bytes numbers names lists place → list_count numbers ≤ length lists → place.rest.now ≡ [] →
+pub lists-end : (bytes : List ℕ) (numbers : Numbering) (names : List (List ℕ)) (lists : List (List Event)) (place : Place) →
+    AreRead bytes numbers names lists place → list_count numbers ≤ length lists → place.rest.now ≡ [] →
     ListReads bytes numbers names lists
 lists-end bytes numbers names lists place to all none = record {
   text = to.at.text ∙ ap (λ t. ListText names numbers lists ++ t) none ∙ append-nil (ListText names numbers lists);
@@ -225,7 +233,8 @@ lists-end bytes numbers names lists place to all none = record {
 }
 
 -- the fault of a list
-pub lists-fault : (bytes : List ℕ) (numbers : Numbering) (names : List (List ℕ)) (lists : List (List Event)) (place : Place) (error : SeqError) → AreRead bytes numbers names lists place → length lists < list_count numbers →
+pub lists-fault : (bytes : List ℕ) (numbers : Numbering) (names : List (List ℕ)) (lists : List (List Event)) (place : Place) (error : SeqError) →
+    AreRead bytes numbers names lists place → length lists < list_count numbers →
     FailsAtList numbers (length lists) place error → HasFirstListFault bytes numbers names error
 lists-fault bytes numbers names lists place error to more (inl fault) = inr (inl record {
   lists = lists;
@@ -252,7 +261,8 @@ lists-fault bytes numbers names lists place error to more (inr inside) = inr (in
 })
 
 -- a line behind the last list
-pub lists-behind : (bytes : List ℕ) (numbers : Numbering) (names : List (List ℕ)) (lists : List (List Event)) (place : Place) → AreRead bytes numbers names lists place → list_count numbers ≤ length lists → (length place.rest.now == 0) ≡ false →
+pub lists-behind : (bytes : List ℕ) (numbers : Numbering) (names : List (List ℕ)) (lists : List (List Event)) (place : Place) →
+    AreRead bytes numbers names lists place → list_count numbers ≤ length lists → (length place.rest.now == 0) ≡ false →
     HasFirstListFault bytes numbers names (AfterEnd place.line)
 lists-behind bytes numbers names lists place to all some =
     let first : Bool → Option SeqError
@@ -268,13 +278,15 @@ lists-behind bytes numbers names lists place to all some =
     })
 
 -- the fault of the next task's list
-pub task-fault : (bytes : List ℕ) (numbers : Numbering) (names : List (List ℕ)) (lists : List (List Event)) (place : Place) (task : ℕ) (error : SeqError) → AreRead bytes numbers names lists place → length lists ≡ task → task < list_count numbers →
+pub task-fault : (bytes : List ℕ) (numbers : Numbering) (names : List (List ℕ)) (lists : List (List Event)) (place : Place) (task : ℕ) (error : SeqError) →
+    AreRead bytes numbers names lists place → length lists ≡ task → task < list_count numbers →
     FailsAtList numbers task place error → HasFirstListFault bytes numbers names error
 task-fault bytes numbers names lists place task error to count next fails =
     lists-fault bytes numbers names lists place error to (omega (arith, count, next)) (subst (λ n. FailsAtList numbers n place error) (sym count) fails)
 
 -- the next task's list
-pub task-more : (bytes : List ℕ) (numbers : Numbering) (names : List (List ℕ)) (lists : List (List Event)) (place next : Place) (task : ℕ) (events : List Event) → AreRead bytes numbers names lists place → length lists ≡ task → task < list_count numbers →
+pub task-more : (bytes : List ℕ) (numbers : Numbering) (names : List (List ℕ)) (lists : List (List Event)) (place next : Place) (task : ℕ) (events : List Event) →
+    AreRead bytes numbers names lists place → length lists ≡ task → task < list_count numbers →
     IsNextList numbers task place events next → AreRead bytes numbers names (lists ++ (events ∷ [])) next
 task-more bytes numbers names lists place next task events to count more list =
     lists-more bytes numbers names lists place next events to (omega (arith, count, more)) (subst (λ n. IsNextList numbers n place events next) (sym count) list)

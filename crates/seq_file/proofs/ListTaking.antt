@@ -77,7 +77,8 @@ text-some events event rest =
     ne_eqb (length (lines (event ∷ events) ++ rest)) 0
     (λ e. absurd (omega (arith, e, ap length (lines-cons event events rest), length-append (event_text event) (10 ∷ (lines events ++ rest)))))
 
-event-sound : (numbers : Numbering) → IsShort numbers → (task before line : ℕ) (ended : Bool) (x : Event) (xs : List Event) (rest : List ℕ) → is_known numbers x ≡ true → ended ≡ false → before < most_listed →
+event-sound : (numbers : Numbering) → IsShort numbers → (task before line : ℕ) (ended : Bool) (x : Event) (xs : List Event) (rest : List ℕ) →
+    is_known numbers x ≡ true → ended ≡ false → before < most_listed →
     next_event_fault numbers task ended before line (lines (x ∷ xs) ++ rest) ≡ None
 event-sound numbers short task before line ended x xs rest known going few =
     let text : List ℕ = lines (x ∷ xs) ++ rest in
@@ -90,13 +91,15 @@ event-sound numbers short task before line ended x xs rest known going few =
     ∙ ap (fault_of_event numbers line) (event-read numbers short x known)
     ∙ ap (λ b. cond b None (Some (BadNumber line))) known
 
-event-there : (numbers : Numbering) → IsShort numbers → (x : Event) (xs : List Event) (rest : List ℕ) → is_known numbers x ≡ true → event_at (lines (x ∷ xs) ++ rest) ≡ x
+event-there : (numbers : Numbering) → IsShort numbers → (x : Event) (xs : List Event) (rest : List ℕ) → is_known numbers x ≡ true →
+    event_at (lines (x ∷ xs) ++ rest) ≡ x
 event-there numbers short x xs rest known =
     ap (λ o. unwrap_or (option_and_then event_of_line o) Z) (first-line_cut (lines (x ∷ xs) ++ rest) (event_text x) (lines xs ++ rest) (line-cut numbers short x xs rest known))
     ∙ ap (λ o. unwrap_or o Z) (event-read numbers short x known)
 
 -- events that may stand in a list are taken, and then what is left
-pub events-taken : (numbers : Numbering) → IsShort numbers → (task left : ℕ) (ended : Bool) (before line b l : ℕ) (xs : List Event) (rest : List ℕ) → AreKnown numbers xs → NothingFollowsEnd xs → (ended ≡ true → xs ≡ []) →
+pub events-taken : (numbers : Numbering) → IsShort numbers → (task left : ℕ) (ended : Bool) (before line b l : ℕ) (xs : List Event) (rest : List ℕ) →
+    AreKnown numbers xs → NothingFollowsEnd xs → (ended ≡ true → xs ≡ []) →
     before + length xs ≤ most_listed → b ≡ before + length xs → l ≡ line + length xs →
     take_events numbers task (beyond xs left) ended before line (lines xs ++ rest) ≡ with_events xs (take_events numbers task left (ended || has_ended xs) b l rest)
 events-taken numbers short task left ended before line b l [] rest known end stop few eb el =

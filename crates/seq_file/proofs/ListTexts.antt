@@ -1,9 +1,10 @@
 -- The text of lists, in plain pieces and with one list more.
-use Rattle.std.proofs.Common.{◌≡◌, ℕ, ◌+◌, List, [], ◌∷◌, ◌++◌, length, refl, ap, ◌∙◌, sym, arith, decimal, append_assoc, append-nil}
+use Rattle.std.proofs.Common.{◌≡◌, ℕ, ◌+◌, true, false, List, [], ◌∷◌, ◌++◌, length, refl, ap, ◌∙◌, sym, arith, decimal, append_assoc, append-nil}
 use Rattle.ded_io.specs.Written.{◌⧺◌}
 use Rattle.event_machine.specs.declared.Event.{Event}
 use Rattle.syn_event.specs.Numbering.{Numbering}
-use Rattle.seq_file.specs.Lists.{task_line, list_text, lists_text, list_header_line, ListText}
+use Rattle.seq_file.specs.Files.{SeqText}
+use Rattle.seq_file.specs.Lists.{is_in_lists, task_line, list_text, lists_text, list_header_line, ListText}
 use Rattle.seq_file.proofs.Filing.{lines}
 
 pub text-behind : (names : List (List ℕ)) (numbers : Numbering) (lists : List (List Event)) (rest : List ℕ) →
@@ -11,7 +12,8 @@ pub text-behind : (names : List (List ℕ)) (numbers : Numbering) (lists : List 
 unfolding ◌⧺◌
 text-behind names numbers lists rest = append_assoc (list_header_line names numbers) (lists_text 0 lists) rest
 
-pub list-joined : (task : ℕ) (events : List Event) (rest : List ℕ) → list_text task events ++ rest ≡ task_line task (decimal (length events)) ++ (lines events ++ rest)
+pub list-joined : (task : ℕ) (events : List Event) (rest : List ℕ) →
+    list_text task events ++ rest ≡ task_line task (decimal (length events)) ++ (lines events ++ rest)
 unfolding ◌⧺◌
 list-joined task events rest = append_assoc (task_line task (decimal (length events))) (lines events) rest
 
@@ -34,7 +36,8 @@ pub list-one : (task : ℕ) (events : List Event) → lists_text task (events �
 unfolding ◌⧺◌
 list-one task events = append-nil (list_text task events)
 
-lists-push : (task : ℕ) (lists : List (List Event)) (events : List Event) → lists_text task (lists ++ (events ∷ [])) ≡ lists_text task lists ++ list_text (task + length lists) events
+lists-push : (task : ℕ) (lists : List (List Event)) (events : List Event) →
+    lists_text task (lists ++ (events ∷ [])) ≡ lists_text task lists ++ list_text (task + length lists) events
 lists-push task lists events =
     lists-append task lists (events ∷ []) ∙ ap (λ t. lists_text task lists ++ t) (list-one (task + length lists) events)
 
@@ -49,3 +52,12 @@ text-push names numbers lists events rest =
     ∙ ap (λ n. (lists_text 0 lists ++ list_text n events) ++ rest) (sym here)
     ∙ ap (λ t. t ++ rest) (sym (lists-push 0 lists events)))
     ∙ sym (text-behind names numbers (lists ++ (events ∷ [])) rest)
+
+-- how the bytes of either kind of file begin
+pub lists-begin : (names : List (List ℕ)) (numbers : Numbering) (lists : List (List Event)) → is_in_lists (ListText names numbers lists) ≡ true
+unfolding ◌⧺◌
+lists-begin names numbers lists = refl
+
+pub events-begin : (names : List (List ℕ)) (numbers : Numbering) (events : List Event) → is_in_lists (SeqText names numbers events) ≡ false
+unfolding ◌⧺◌
+events-begin names numbers events = refl

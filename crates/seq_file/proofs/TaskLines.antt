@@ -44,7 +44,8 @@ task-free task word n small h =
     free-prefix 10 (codes "task ") (decimal task ++ (32 ∷ word)) refl
     (All-append (λ b. (b == 10) ≡ false) (decimal task) (32 ∷ word) (decimal-free 10 task (omega arith) small) (free-cons 10 32 word refl (natural-free 10 word n (omega arith) h)))
 
-pub task-cut : (task : ℕ) (word rest : List ℕ) (n : ℕ) → task < 2 ^ 64 → natural word ≡ Some n → cut is_line_end (task_line task word ++ rest) ≡ Some (task_text task word, rest)
+pub task-cut : (task : ℕ) (word rest : List ℕ) (n : ℕ) → task < 2 ^ 64 → natural word ≡ Some n →
+    cut is_line_end (task_line task word ++ rest) ≡ Some (task_text task word, rest)
 task-cut task word rest n small h =
     ap (cut is_line_end) (task-line task word rest) ∙ cut-at_mark 10 (task_text task word) rest (task-free task word n small h)
 
@@ -58,7 +59,8 @@ task-asks task word n small h =
     ∙ ap (λ b. cond b (natural word) None) (eq-eqb task task refl)
     ∙ h
 
-pub asked-there : (task : ℕ) (word rest : List ℕ) (n : ℕ) → task < 2 ^ 64 → natural word ≡ Some n → option_and_then (asked_by_line task) (first_line (task_line task word ++ rest)) ≡ Some n
+pub asked-there : (task : ℕ) (word rest : List ℕ) (n : ℕ) → task < 2 ^ 64 → natural word ≡ Some n →
+    option_and_then (asked_by_line task) (first_line (task_line task word ++ rest)) ≡ Some n
 asked-there task word rest n small h =
     ap (option_and_then (asked_by_line task)) (first-line_cut (task_line task word ++ rest) (task_text task word) rest (task-cut task word rest n small h))
     ∙ task-asks task word n small h
@@ -90,7 +92,8 @@ asked-words task (w ∷ k ∷ c ∷ []) n small h =
 asked-words task (w ∷ k ∷ c ∷ more ∷ rest) n small h = clash (ap is_some h)
 
 -- A line that begins the list of a task is its text.
-pub asked-written : (task : ℕ) (line : List ℕ) (n : ℕ) → task < 2 ^ 64 → asked_by_line task line ≡ Some n → (word : List ℕ) × (line ≡ task_text task word) × (natural word ≡ Some n)
+pub asked-written : (task : ℕ) (line : List ℕ) (n : ℕ) → task < 2 ^ 64 → asked_by_line task line ≡ Some n →
+    (word : List ℕ) × (line ≡ task_text task word) × (natural word ≡ Some n)
 asked-written task line n small h =
     let (word, joined, asks) = asked-words task (words_of line) n small h in
     (word, sym (join_with_byte-slice_split 32 line) ∙ joined, asks)

@@ -118,7 +118,7 @@ next_event_fault numbers task ended before line rest =
     else (if nat_lt before most_listed then fault_of_event numbers line (option_and_then event_of_line (first_line rest))
     else Some (TooMany most_listed)))
 
--- the last of the lists ends with Z
+-- the last of the lists has Z, or what is given where there is none
 abbrev pub last_ended : Bool → List (List Event) → Bool
 last_ended ended [] = ended
 last_ended ended (events ∷ lists) = last_ended (has_ended events) lists

@@ -3,10 +3,12 @@
 ghost use Rattle.std.specs.Prelude.{◌≡◌, ◌≢◌, ◌<◌, ◌≤◌, ◌+◌, ◌-◌, ◌^◌, ◌++◌, [], ◌∷◌, ℕ, OnOk, List, length, map, IfOk, IfErr, IfSome, MatchOption, MatchResult, true, false, Option, Some, option_map, nat_lt, ◌&&◌, ◌==◌, not, if◌then◌else◌};
 ghost use Rattle.event_machine.specs.declared.Event.{Event};
 ghost use Rattle.syn_event.specs.DeclaredTasks.{text_of};
+ghost use Rattle.syn_event.specs.Numbering.{Numbering};
 ghost use Rattle.text_lines.specs.Capped.{capped};
 ghost use Rattle.seq_file.specs.declared.errors.SeqError.{SeqError};
 ghost use Rattle.seq_file.specs.declared.errors.SeqError.TheVariants.{Memory, BadLine, AfterEnd};
 ghost use Rattle.seq_file.specs.Lines.{is_upper_name};
+ghost use Rattle.seq_file.specs.Files.{SeqReads};
 ghost use Rattle.seq_file.specs.Lists.{ListReads, HasFirstListFault, is_in_lists, list_count, list_header_fault, writes_number, asked_by_line, begins_list, most_listed, next_event_fault};
 ghost use Rattle.seq_file.specs.Short.{IsShort};
 ghost use Rattle.seq_file.specs.inner.NextLists.{IsBehindListHeader, IsListHead, IsBehindEvent, IsNextListed, IsNextList, FailsAtList};
@@ -25,7 +27,9 @@ const MOST_LISTED: usize = 700000;
 
 /// Whether the bytes begin as a sequence file by tasks does. Other bytes should be read as a sequence file of one list.
 pub fn is_in_lists(bytes: &[u8]) -> bool
-    ensures { result ≡ is_in_lists bytes.now }
+    ensures is { result ≡ is_in_lists bytes.now }
+    ensures lists { (numbers : Numbering) (names : List (List ℕ)) (lists : List (List Event)) → ListReads bytes.now numbers names lists → result ≡ true }
+    ensures one_list { (numbers : Numbering) (names : List (List ℕ)) (events : List Event) → SeqReads bytes.now numbers names events → result ≡ false }
 {
     bytes.starts_with(b"ded-seq 2 ")
 }
