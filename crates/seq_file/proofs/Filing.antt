@@ -24,10 +24,10 @@ use Rattle.seq_file.proofs.Wording.{event-read, event-free, event-written}
 use Rattle.common_lemmas.proofs.Lists.{never_empty}
 use Rattle.common_lemmas.proofs.Truth.{clash, or_false}
 
-abbrev lines : List Event → List ℕ
+abbrev pub lines : List Event → List ℕ
 lines events = each_text event_line events
 
-abbrev AreKnown : Numbering → List Event → Type 0
+abbrev pub AreKnown : Numbering → List Event → Type 0
 AreKnown numbers events = All (λ event. is_known numbers event ≡ true) events
 
 -- the text of a file in plain pieces
@@ -35,12 +35,12 @@ text-joined : (names : List (List ℕ)) (numbers : Numbering) (events : List Eve
 unfolding ◌⧺◌
 text-joined names numbers events = refl
 
-lines-cons : (event : Event) (events : List Event) (rest : List ℕ) → lines (event ∷ events) ++ rest ≡ event_text event ++ (10 ∷ (lines events ++ rest))
+pub lines-cons : (event : Event) (events : List Event) (rest : List ℕ) → lines (event ∷ events) ++ rest ≡ event_text event ++ (10 ∷ (lines events ++ rest))
 unfolding ◌⧺◌
 lines-cons event events rest =
     append_assoc (event_text event ++ (10 ∷ [])) (lines events) rest ∙ append_assoc (event_text event) (10 ∷ []) (lines events ++ rest)
 
-lines-append : (xs ys : List Event) → lines (xs ++ ys) ≡ lines xs ++ lines ys
+pub lines-append : (xs ys : List Event) → lines (xs ++ ys) ≡ lines xs ++ lines ys
 unfolding ◌⧺◌
 lines-append [] ys = refl
 lines-append (x ∷ xs) ys =
@@ -51,7 +51,7 @@ lines-nil [] h = refl
 lines-nil (event ∷ events) h = never_empty (event_text event) 10 (lines events ++ []) (sym (lines-cons event events []) ∙ h)
 
 -- the first line of the lines of events
-line-cut : (numbers : Numbering) → IsShort numbers → (event : Event) (events : List Event) (rest : List ℕ) → is_known numbers event ≡ true → cut is_line_end (lines (event ∷ events) ++ rest) ≡ Some (event_text event, lines events ++ rest)
+pub line-cut : (numbers : Numbering) → IsShort numbers → (event : Event) (events : List Event) (rest : List ℕ) → is_known numbers event ≡ true → cut is_line_end (lines (event ∷ events) ++ rest) ≡ Some (event_text event, lines events ++ rest)
 line-cut numbers short event events rest known =
     ap (cut is_line_end) (lines-cons event events rest) ∙ cut-at_mark 10 (event_text event) (lines events ++ rest) (event-free numbers short event known)
 
@@ -203,7 +203,7 @@ read-start bytes numbers names rest short header = record {
   ends = refl;
 }
 
-push-follows : (xs : List Event) (y : Event) → NothingFollowsEnd xs → has_ended xs ≡ false → NothingFollowsEnd (xs ++ (y ∷ []))
+pub push-follows : (xs : List Event) (y : Event) → NothingFollowsEnd xs → has_ended xs ≡ false → NothingFollowsEnd (xs ++ (y ∷ []))
 push-follows [] y h no' = (λ e. refl, tt)
 push-follows (x ∷ xs) y h no' = elim (cases_Bool (is_end x)) [
   | inl e ↦ clash (sym (sym (ap (λ t. t || has_ended xs) e) ∙ no'))

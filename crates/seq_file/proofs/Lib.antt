@@ -6,6 +6,12 @@ pub mod Calling
 pub mod Wording
 pub mod Heading
 pub mod Filing
+pub mod TaskLines
+pub mod ListTexts
+pub mod ListTaking
+pub mod ListOutcomes
+pub mod ListReading
+pub mod ListWriting
 pub mod ByLines
 pub mod MainNames
 pub mod EndLemmas

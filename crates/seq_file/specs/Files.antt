@@ -17,10 +17,14 @@ use Rattle.seq_file.specs.Known.{is_known}
 abbrev pub most_events : ℕ
 most_events = 200000
 
+-- a first line behind its format: the name of the program, and how many tasks beside main and entries the original has
+abbrev pub header_end : List (List ℕ) → Numbering → List ℕ
+header_end names numbers =
+    text_of names numbers.main ⧺ (codes " " ⧺ (decimal (original_tasks numbers) ⧺ (codes " " ⧺ (decimal (original_entries numbers) ⧺ codes "\n"))))
+
 -- the first line: the format, the name of the program, and how many tasks beside main and entries the original has
 abbrev pub header_line : List (List ℕ) → Numbering → List ℕ
-header_line names numbers =
-    codes "ded-seq 1 " ⧺ (text_of names numbers.main ⧺ (codes " " ⧺ (decimal (original_tasks numbers) ⧺ (codes " " ⧺ (decimal (original_entries numbers) ⧺ codes "\n")))))
+header_line names numbers = codes "ded-seq 1 " ⧺ header_end names numbers
 
 -- the line of an event
 abbrev pub event_line : Event → List ℕ

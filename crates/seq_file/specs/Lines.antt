@@ -85,12 +85,16 @@ header_with main tasks entries = record { main = main; tasks = tasks; entries = 
 abbrev pub upper_name : List ℕ → Option (List ℕ)
 upper_name word = if is_upper_name word then Some word else None
 
+-- the header that the words of a line write in the format of this number
+abbrev pub header_of_format : List ℕ → List (List ℕ) → Option Header
+header_of_format number (format ∷ version ∷ main ∷ tasks ∷ entries ∷ []) =
+    if bytes_eq format (codes "ded-seq") && bytes_eq version number
+    then with_three header_with (upper_name main) (count tasks) (count entries) else None
+header_of_format number _ = None
+
 -- the header that the words of a line write
 abbrev pub header_of_words : List (List ℕ) → Option Header
-header_of_words (format ∷ version ∷ main ∷ tasks ∷ entries ∷ []) =
-    if bytes_eq format (codes "ded-seq") && bytes_eq version (codes "1")
-    then with_three header_with (upper_name main) (count tasks) (count entries) else None
-header_of_words _ = None
+header_of_words words = header_of_format (codes "1") words
 
 -- The header that a line writes, with counts of any size; none where the line is not in the grammar.
 abbrev pub header_of_line : List ℕ → Option Header

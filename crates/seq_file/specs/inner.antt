@@ -1,3 +1,4 @@
 pub mod WordLists
 pub mod Verdicts
 pub mod NextEvents
+pub mod NextLists

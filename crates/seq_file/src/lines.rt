@@ -8,8 +8,9 @@ ghost use Rattle.seq_file.specs.declared.lines.Verdict.TheVariants.{Known, BadNu
 ghost use Rattle.syn_event.specs.Numbering.{original_tasks, original_entries, is_original_task, is_original_entry};
 ghost use Rattle.syn_event.specs.DeclaredTasks.{text_of};
 ghost use Rattle.event_machine.specs.declared.Event.{Event};
+ghost use Rattle.text_lines.specs.Lines.{words_of};
 ghost use Rattle.text_lines.specs.Numerals.{count, integer};
-ghost use Rattle.seq_file.specs.Lines.{event_of_line, header_of_line, lone_event, task_event, pair_event, call_event, with_three, header_with, upper_name, is_upper_name, name_goes_on, is_name_part, is_capital};
+ghost use Rattle.seq_file.specs.Lines.{event_of_line, header_of_format, lone_event, task_event, pair_event, call_event, with_three, header_with, upper_name, is_upper_name, name_goes_on, is_name_part, is_capital};
 ghost use Rattle.common_lemmas.specs.Following.{every};
 ghost use Rattle.seq_file.specs.inner.Verdicts.{verdict_of};
 ghost use Rattle.seq_file.specs.Files.{fault_of_header};
@@ -182,15 +183,15 @@ fn text_or_empty<'a>(text: Option<&'a str>) -> &'a [u8]
     }
 }
 
-/// The fault of a header, if it has one.
-pub(crate) fn header_fault(line: &[u8], program: &Program) -> Option<SeqError>
+/// The fault of a header in the format of this number, if it has one.
+pub(crate) fn header_fault(line: &[u8], number: &[u8], program: &Program) -> Option<SeqError>
     requires tasks { program.now.tasks < 2 ^ 32 }
     requires entries { program.now.entries < 2 ^ 32 }
-    ensures { result ≡ fault_of_header program.now.main.now program.now.tasks program.now.entries (header_of_line line.now) }
+    ensures { result ≡ fault_of_header program.now.main.now program.now.tasks program.now.entries (header_of_format number.now (words_of line.now)) }
 {
     match split_words(line) {
         Words::Five(format, version, main, tasks, entries) => {
-            if is_text(format, b"ded-seq") && is_text(version, b"1") {
+            if is_text(format, b"ded-seq") && is_text(version, number) {
                 program_fault(main, tasks, entries, program)
             } else {
                 Some(SeqError::BadLine { line: 1 })
@@ -226,9 +227,9 @@ fn program_fault(main: &[u8], tasks: &[u8], entries: &[u8], program: &Program) -
     }
 }
 
-// Whether the number is the one that is wanted.
+/// Whether the number is the one that is wanted.
 #[tactic(auto, using(crate::proofs::Heading::same_numbers))]
-fn is_number(n: u64, wanted: u64) -> bool
+pub(crate) fn is_number(n: u64, wanted: u64) -> bool
     requires { wanted < 2 ^ 32 }
     ensures { (m : ℕ) → n ≡ capped m → result ≡ nat_eq m wanted }
 {

@@ -58,7 +58,7 @@ pub fn read_seq(
     Ok(events)
 }
 
-fn add(events: &mut Vec<Event>, event: Event) -> Result<(), SeqError>
+pub(crate) fn add(events: &mut Vec<Event>, event: Event) -> Result<(), SeqError>
     ensures added { OnOk result (events.new.items ≡ events.old.items ++ event ∷ []) }
     ensures memory { IfErr result (λ error. error ≡ Memory) }
 {
@@ -88,7 +88,7 @@ pub(crate) fn behind_header<'a>(
     let Some((line, behind)) = cut_at(bytes, b'\n') else {
         return Err(SeqError::BadLine { line: 1 });
     };
-    match header_fault(line, &program) {
+    match header_fault(line, b"1", &program) {
         Some(error) => Err(error),
         None => Ok(behind),
     }

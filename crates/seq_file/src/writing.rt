@@ -3,7 +3,7 @@
 ghost use Rattle.std.specs.Prelude.{◌≡◌, ◌<◌};
 ghost use Rattle.ded_io.specs.Counts.{HasCause};
 ghost use Rattle.ded_io.specs.Written.{Wrote, each_text};
-ghost use Rattle.seq_file.specs.Files.{AreFit, SeqReads, SeqText, header_line, event_line};
+ghost use Rattle.seq_file.specs.Files.{AreFit, SeqReads, SeqText, header_line, header_end, event_line};
 
 use super::lines::{original_entries, original_tasks};
 use ada_tree::Names;
@@ -28,13 +28,26 @@ pub fn write_seq<K: Sink>(
     put_events(events, out)
 }
 
-// Appends the first line: the format, the program's name, and how many tasks and entries the original has.
+// Appends the first line: the format, and what stands behind it.
 #[tactic(auto, using(ded_io::proofs::Writes::writes))]
 fn put_header<K: Sink>(numbers: &Numbers, names: &Names, out: &mut K) -> Result<(), SinkError>
     ensures bytes { Wrote result (K.told out.old) (K.told out.new) (header_line names.now numbers.now) }
     ensures cause { HasCause (K.faults out.old) (K.faults out.new) result }
 {
     out.put(b"ded-seq 1 ")?;
+    put_program(numbers, names, out)
+}
+
+/// Appends the rest of a first line behind the format: the program's name, and how many tasks and entries the original has.
+#[tactic(auto, using(ded_io::proofs::Writes::writes))]
+pub(crate) fn put_program<K: Sink>(
+    numbers: &Numbers,
+    names: &Names,
+    out: &mut K,
+) -> Result<(), SinkError>
+    ensures bytes { Wrote result (K.told out.old) (K.told out.new) (header_end names.now numbers.now) }
+    ensures cause { HasCause (K.faults out.old) (K.faults out.new) result }
+{
     out.put(name_of(names, numbers.main))?;
     out.put(b" ")?;
     put_number(original_tasks(&numbers.tasks), out)?;
@@ -43,8 +56,8 @@ fn put_header<K: Sink>(numbers: &Numbers, names: &Names, out: &mut K) -> Result<
     out.put(b"\n")
 }
 
-// Appends a line for each event.
-fn put_events<K: Sink>(events: &[Event], out: &mut K) -> Result<(), SinkError>
+/// Appends a line for each event.
+pub(crate) fn put_events<K: Sink>(events: &[Event], out: &mut K) -> Result<(), SinkError>
     ensures bytes { Wrote result (K.told out.old) (K.told out.new) (each_text event_line events.now) }
     ensures cause { HasCause (K.faults out.old) (K.faults out.new) result }
 {
