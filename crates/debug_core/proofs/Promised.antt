@@ -14,7 +14,7 @@ use Rattle.normal_runs.specs.runs.Laws.{opened}
 use Rattle.normal_runs.specs.forms.Normalisable.{numbers_of}
 use Rattle.replay_model.specs.Promised.{IsReplayText}
 use Rattle.replay_model.specs.ReplayTree.{most_events}
-use Rattle.replay_runs.specs.controls.replayed.Replaying.{AgreeBelow, Replays, starting}
+use Rattle.replay_runs.specs.controls.replayed.Replaying.{AgreeBelow, Replays, ReplaysProgram, starting}
 use Rattle.debug_judge.specs.JudgeOutcomes.{IsVerdictOfSequence, SequenceMeans}
 use Rattle.debug_replay.specs.ReplayOutcomes.{IsReplayWritten, PassesLimit, ReplaysLines}
 use Rattle.debug_outcome.specs.Coming.{IsRefusal}
@@ -24,7 +24,7 @@ use Rattle.debug_outcome.specs.declared.refusal.Refusal.{Refusal}
 use Rattle.debug_outcome.specs.declared.refusal.Refusal.TheVariants.{LongText, TooMany}
 use Rattle.debug_outcome.specs.files.Wanting.{text_limit}
 use Rattle.debug_outcome.proofs.Comings.{line_is_some}
-use Rattle.debug_core.specs.Headline.{Headline, HasWritten, IsPromised}
+use Rattle.debug_core.specs.Headline.{Headline, HasWritten, IsPromised, KeepsToVerdict}
 use Rattle.debug_core.specs.InputTexts.{AreBadInputs}
 use Rattle.debug_core.specs.JudgeMeaning.{IsJudgedFromStart}
 use Rattle.debug_core.specs.LegalTexts.{IsRefusedText}
@@ -96,21 +96,28 @@ module _ (text : List ℕ) (inputs : Option (List ℕ)) (lines : List ℕ) (boun
     seen = v.judged.seen;
     told = v.judged.is;
     replay = w.text;
-    is_text = subst (λ (events : List Event). IsReplayText p h.setup.types h.numbers events w.text) same w.is_text;
+    is_text = subst (λ (events : List Event). IsReplayText p h.setup.types h.numbers events w.text) same_events w.is_text;
     read_back = w.read_back;
     written = w.is;
-    replays = both;
-    keeps = λ others agree. keeps_to h.setup h.numbers bound v.events (starting w.text others) (back_of (numbers_of w.text)) (both others agree) v.judged.verdict v.judged.verdict_is;
+    keeps = kept w.text w.replays;
+    read_keeps = λ again read same. kept again (w.read_replays again read same);
   }
     where
-      same : w.events ≡ v.events
-      same = reads-unique p.names h.numbers (are_short p h.setup.types h.numbers Original h.is_start.is_legal.legal) lines w.events v.events w.reads v.reads
+      same_events : w.events ≡ v.events
+      same_events = reads-unique p.names h.numbers (are_short p h.setup.types h.numbers Original h.is_start.is_legal.legal) lines w.events v.events w.reads v.reads
 
-      both : (others : List (List ℤ)) → AgreeBelow (length h.numbers.tasks) h.setup.inputs others → Replays v.events (opened h.setup h.numbers) (starting w.text others) (back_of (numbers_of w.text))
-      both others agree =
-          subst (λ s. Replays s (opened h.setup h.numbers) (starting w.text others) (back_of (numbers_of w.text))) same
-          (subst (λ o. Replays w.events o (starting w.text others) (back_of (numbers_of w.text))) starts
-          (w.replays h.setup.inputs others (subst (λ (n : Numbering). AgreeBelow (length n.tasks) h.setup.inputs others) own-numbers agree)))
+      both : (q : PProgram) → ReplaysProgram p q w.events → (others : List (List ℤ)) → AgreeBelow (length h.numbers.tasks) h.setup.inputs others →
+          Replays v.events (opened h.setup h.numbers) (starting q others) (back_of (numbers_of q))
+      both q replays others agree =
+          subst (λ s. Replays s (opened h.setup h.numbers) (starting q others) (back_of (numbers_of q))) same_events
+          (subst (λ o. Replays w.events o (starting q others) (back_of (numbers_of q))) starts
+          (replays h.setup.inputs others (subst (λ (n : Numbering). AgreeBelow (length n.tasks) h.setup.inputs others) own-numbers agree)))
+
+      kept : (q : PProgram) → ReplaysProgram p q w.events → KeepsToVerdict h.setup h.numbers v.events v.judged.verdict q
+      kept q replays = record {
+        replays = both q replays;
+        keeps = λ others agree. keeps_to h.setup h.numbers bound v.events (starting q others) (back_of (numbers_of q)) (both q replays others agree) v.judged.verdict v.judged.verdict_is;
+      }
 
 pub headline : Headline
 headline text inputs lines bound j r (inr h) m wj wr = absurd (no-start text inputs j wj h)

@@ -7,6 +7,8 @@ use Rattle.event_machine.specs.Programs.{numbered}
 use Rattle.event_machine.specs.Runs.{IsRun}
 use Rattle.event_machine.specs.Tallies.{IsKilledIn}
 use Rattle.ada_tree.specs.PlainProgram.{PProgram}
+use Rattle.ada_tree.specs.Same.{Same}
+use Rattle.ada_parser.specs.Reads.{Reads}
 use Rattle.ada_printer.specs.ProgramText.{program_text}
 use Rattle.syn_event.specs.declared.numbering.Mode.TheVariants.{Original}
 use Rattle.syn_event.specs.Numbering.{Numbering}
@@ -75,9 +77,14 @@ module _ {L K : Type 0} (s : List Event) (one : Opened L) (other : Opened K) (me
   KeepsTo (Infeasible at why) = StopsAt at
   KeepsTo (Unsettled at task) = Unit {0}
 
+-- With the judged inputs for the first program's tasks and any for the others, the program q replays the sequence and keeps to the verdict, whatever the
+-- schedule.
+pub record KeepsToVerdict (setup : ProgramWithInputs) (numbers : Numbering) (events : List Event) (verdict : Verdict) (q : PProgram) : Type 0 where
+  pub replays : (others : List (List ℤ)) → AgreeBelow (length numbers.tasks) setup.inputs others → Replays events (opened setup numbers) (starting q others) (back_of (numbers_of q))
+  pub keeps : (others : List (List ℤ)) → AgreeBelow (length numbers.tasks) setup.inputs others → KeepsTo events (opened setup numbers) (starting q others) (back_of (numbers_of q)) verdict
+
 -- The files hold a program, inputs and a sequence of it. The verdict that is told is that of the sequence, with why it is so. The text that is written is
--- the sequence's replay text. With the judged inputs for the first program's tasks and any for the others, it replays the sequence and keeps to the
--- verdict, whatever the schedule.
+-- the sequence's replay text. The program whose text it is, and each that is the same and is read from it, keeps to the verdict.
 pub record IsPromised (text : List ℕ) (inputs : Option (List ℕ)) (lines : List ℕ) (bound : ℕ) (judged replayed : Outcome) : Type 0 where
   pub setup : ProgramWithInputs
   pub numbers : Numbering
@@ -93,8 +100,8 @@ pub record IsPromised (text : List ℕ) (inputs : Option (List ℕ)) (lines : Li
   pub is_text : IsReplayText setup.program setup.types numbers events replay
   pub read_back : IsReadAsSame replay
   pub written : replayed ≡ writes (program_text replay) 0
-  pub replays : (others : List (List ℤ)) → AgreeBelow (length numbers.tasks) setup.inputs others → Replays events (opened setup numbers) (starting replay others) (back_of (numbers_of replay))
-  pub keeps : (others : List (List ℤ)) → AgreeBelow (length numbers.tasks) setup.inputs others → KeepsTo events (opened setup numbers) (starting replay others) (back_of (numbers_of replay)) verdict
+  pub keeps : KeepsToVerdict setup numbers events verdict replay
+  pub read_keeps : (again : PProgram) → Reads (program_text replay) again → Same replay again → KeepsToVerdict setup numbers events verdict again
 
 -- a call has written a text, with a status
 abbrev pub HasWritten : Outcome → Type 0
