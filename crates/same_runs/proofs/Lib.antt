@@ -1,0 +1,12 @@
+pub mod Going
+pub mod Lists
+pub mod Meeting
+pub mod Names
+pub mod Opening
+pub mod Running
+pub mod Settings
+pub mod Stepping
+pub mod Tasks
+pub mod Trees
+pub mod Waiting
+pub mod Reading

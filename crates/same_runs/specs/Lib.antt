@@ -1,0 +1,4 @@
+pub mod Alike
+pub mod Renamed
+pub mod RenamedTasks
+pub mod RenamedValues
