@@ -1,3 +1,4 @@
+pub mod Declaring
 pub mod Going
 pub mod Lists
 pub mod Meeting
@@ -5,6 +6,7 @@ pub mod Names
 pub mod Opening
 pub mod Running
 pub mod Settings
+pub mod Statics
 pub mod Stepping
 pub mod Tasks
 pub mod Trees

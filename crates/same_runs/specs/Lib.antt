@@ -1,4 +1,5 @@
 pub mod Alike
 pub mod Renamed
+pub mod RenamedScopes
 pub mod RenamedTasks
 pub mod RenamedValues
