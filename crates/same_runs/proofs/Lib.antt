@@ -3,11 +3,15 @@ pub mod Going
 pub mod Lists
 pub mod Meeting
 pub mod Names
+pub mod Numbers
 pub mod Opening
+pub mod Programs
+pub mod Replaying
 pub mod Running
 pub mod Settings
 pub mod Statics
 pub mod Stepping
+pub mod Tables
 pub mod Tasks
 pub mod Trees
 pub mod Waiting

@@ -1,8 +1,8 @@
 -- Searches, tests and places in a list of changed things.
-use Rattle.std.proofs.Common.{◌++◌, ◌+◌, ◌||◌, ◌∙◌, ◌∷◌, ◌≡◌, Bool, List, None, Option, Some, [], ap, ap₂, cond, false, find, flat_map, if◌then◌else◌, map, nat_lt, not, option_map, position, refl, slice_index_or, sym, true, unwrap_or, ℕ}
+use Rattle.std.proofs.Common.{◌++◌, ◌+◌, ◌||◌, ◌∙◌, ◌∷◌, ◌≡◌, Bool, List, None, Option, Some, [], ap, ap₂, cond, count_by, false, find, flat_map, if◌then◌else◌, map, nat_lt, not, option_map, position, refl, slice_index_or, sym, true, unwrap_or, ℕ}
 use Rattle.std.proofs.Math.ListN.{get_or-map}
 use Rattle.std.proofs.lemmas.List.{length-map, map-append}
-use Rattle.std.specs.List.{list_any, prefix_len}
+use Rattle.std.specs.List.{fold, list_any, prefix_len}
 use Rattle.event_machine.specs.Applying.{same}
 
 pub if_pushed : {A B : Type 0} (h : A → B) (b : Bool) (x y : A) → (if b then h x else h y) ≡ h (if b then x else y)
@@ -59,3 +59,11 @@ unwrapped h (Some y) x = refl
 
 pub set_mapped : {A B : Type 0} (h : A → B) (xs : List A) (n : ℕ) (d : A) → slice_index_or (map h xs) n (h d) ≡ h (slice_index_or xs n d)
 set_mapped h xs n d = get_or-map h xs n d
+
+count_from : {A B : Type 0} (h : A → B) (p : B → Bool) (q : A → Bool) → ((x : A) → p (h x) ≡ q x) → (xs : List A) (n : ℕ) →
+    fold (λ a x. a + cond (p x) 1 0) n (map h xs) ≡ fold (λ a x. a + cond (q x) 1 0) n xs
+count_from h p q like [] n = refl
+count_from h p q like (x ∷ xs) n = ap (λ b. fold (λ a y. a + cond (p y) 1 0) (n + cond b 1 0) (map h xs)) (like x) ∙ count_from h p q like xs (n + cond (q x) 1 0)
+
+pub count_mapped : {A B : Type 0} (h : A → B) (p : B → Bool) (q : A → Bool) → ((x : A) → p (h x) ≡ q x) → (xs : List A) → count_by p (map h xs) ≡ count_by q xs
+count_mapped h p q like xs = count_from h p q like xs 0

@@ -1,5 +1,6 @@
 -- What a renaming of ids does to tasks as they start (3.2.1, 9.1, 9.3).
-use Rattle.std.proofs.Common.{◌==◌, ◌∙◌, ◌∷◌, ◌≡◌, Bool, Err, List, None, Ok, Option, Result, Some, [], ap, false, if◌then◌else◌, map, option_map, refl, replicate, slice_get, slice_index_or, unwrap_or, ℕ, ℤ}
+use Rattle.std.proofs.Common.{◌==◌, ◌||◌, ◌∙◌, ◌∷◌, ◌≡◌, Bool, Err, List, None, Ok, Option, Result, Some, [], ap, count_by, false, if◌then◌else◌, map, option_map, refl, replicate, slice_get, slice_index_or, take, unwrap_or, ℕ, ℤ}
+use Rattle.std.proofs.lemmas.List.{take-map}
 use Rattle.std.specs.Option.{option_map_or}
 use Rattle.ada_tree.specs.PlainDecl.{DArray, DEnumeration, DException, DIntIo, DNumber, DObject, DPragma, DSubtype, DTask, DTaskBody, IList, IOne, IOthers, OArray, OPlain, PDecl, PDecls, PInit, PShape, decl_then, no_decl}
 use Rattle.ada_tree.specs.PlainExpr.{PBounds, PDrange, PExpr, PSubind}
@@ -11,7 +12,10 @@ use Rattle.ada_tree.specs.declared.naming.Word.{Word}
 use Rattle.ada_tree.specs.declared.static_types.Kind.{Kind}
 use Rattle.ada_tree.specs.declared.static_types.Mark.{Mark}
 use Rattle.ada_static_rules.specs.StaticValue.{mark_named}
-use Rattle.syn_event.specs.Numbering.{Numbering, entry_at, is_added_task, owner_of, task_at}
+use Rattle.event_machine.specs.declared.Event.{Event}
+use Rattle.event_machine.specs.progress.Known.{part}
+use Rattle.syn_event.specs.Numbering.{Numbering, entry_at, is_added_task, is_original_entry, owner_of, task_at}
+use Rattle.syn_event.specs.Origin.{back_of, entry_number, original_call, original_entry, unless_added}
 use Rattle.syn_event.specs.declared.numbering.EntryInfo.{EntryInfo}
 use Rattle.syn_event.specs.declared.numbering.TaskInfo.{TaskInfo}
 use Rattle.ada_value.specs.Evaluating.{evaluated, narrowed, range_of}
@@ -25,12 +29,13 @@ use Rattle.task_model.specs.Frames.{OwnBody, control}
 use Rattle.task_model.specs.Setting.{Setting}
 use Rattle.task_model.specs.Starting.{after_declaration, array_form, declared_objects, form_of, indicated, initial, initials, is_in_types, known_range, marked_form, object_of, objects_of, plain_form, started, started_in, unit_among, unit_of, unit_of_decl, unit_of_info, value_count, value_or_lower, with_objects}
 use Rattle.task_model.specs.Steps.{block_handlers, block_stmts}
-use Rattle.same_runs.proofs.Lists.{if_like, map_once, unwrapped}
+use Rattle.same_runs.proofs.Lists.{count_mapped, if_like, map_once, unwrapped}
 use Rattle.same_runs.proofs.Names.{evaluated_same, kept, kind_at_same, limits_at_same, mark_named_same, narrowed_same, range_same, value_at_same}
 use Rattle.same_runs.proofs.Settings.{entry_at_same, task_at_same}
 use Rattle.same_runs.specs.Renamed.{IsRenaming, renamed_body, renamed_bounds, renamed_decl, renamed_decls, renamed_drange, renamed_expr, renamed_handlers, renamed_id, renamed_init, renamed_kind, renamed_mark, renamed_program, renamed_shape, renamed_stmts, renamed_subind, renamed_types, renamed_word}
 use Rattle.same_runs.specs.RenamedTasks.{names_for, renamed_entry_info, renamed_numbers, renamed_setting, renamed_state, renamed_task_info, renamed_unit}
 use Rattle.same_runs.specs.RenamedValues.{renamed_object, renamed_vars}
+use Rattle.event_machine.specs.declared.Event.TheVariants as event
 use Rattle.task_model.specs.Starting as starting
 use Rattle.ada_tree.specs.declared.static_types.Kind.TheVariants as kind
 
@@ -194,3 +199,40 @@ module _ (f : ℕ → ℕ) (r : IsRenaming f) where
 
   pub added_same : (numbers : Numbering) (t : ℕ) → is_added_task (renamed_numbers f numbers) t ≡ is_added_task numbers t
   added_same numbers t = ap (λ o. option_map_or (λ info. info.added) o false) (task_at_same f r numbers t) ∙ added_by (task_at numbers t)
+
+  -- ---- what events stand for
+
+  entry_by : (numbers : Numbering) (e : ℕ) (name : NameId) (owner : ℕ) (family : Bool) (first last : ℤ) (added : Bool) (o : Option ℕ) →
+      entry_number (renamed_numbers f numbers) e (Some record { name = renamed_id f name; owner = owner; family = family; first = first; last = last; added = added; stands_for = o })
+      ≡ entry_number numbers e (Some record { name = name; owner = owner; family = family; first = first; last = last; added = added; stands_for = o })
+  entry_by numbers e name owner family first last added (Some n) = refl
+  entry_by numbers e name owner family first last added None =
+      ap (λ n. if added then None else Some n) (ap (count_by is_original_entry) (take-map (renamed_entry_info f) e numbers.entries)
+      ∙ count_mapped (renamed_entry_info f) is_original_entry is_original_entry (λ x. refl) (take e numbers.entries))
+
+  entry_number_same : (numbers : Numbering) (e : ℕ) (o : Option EntryInfo) → entry_number (renamed_numbers f numbers) e (option_map (renamed_entry_info f) o) ≡ entry_number numbers e o
+  entry_number_same numbers e None = refl
+  entry_number_same numbers e (Some x) = entry_by numbers e x.name x.owner x.family x.first x.last x.added x.stands_for
+
+  original_same : (numbers : Numbering) (e : ℕ) → original_entry (renamed_numbers f numbers) e ≡ original_entry numbers e
+  original_same numbers e = ap (entry_number (renamed_numbers f numbers) e) (entry_at_same f r numbers e) ∙ entry_number_same numbers e (entry_at numbers e)
+
+  call_same : (numbers : Numbering) (c e : ℕ) → original_call (renamed_numbers f numbers) c e ≡ original_call numbers c e
+  call_same numbers c e =
+      (λ i. if added_same numbers c i || is_added_task (renamed_numbers f numbers) (owner_same numbers e i) then None else original_same numbers e i)
+      ∙ ap (λ b. if is_added_task numbers c || b then None else original_entry numbers e) (added_same numbers (owner_of numbers e))
+
+  unless_same : (numbers : Numbering) (t : ℕ) (event : Event) → unless_added (renamed_numbers f numbers) t event ≡ unless_added numbers t event
+  unless_same numbers t event = ap (λ b. if b then None else Some event) (added_same numbers t)
+
+  pub back_same : (numbers : Numbering) (event : Event) → back_of (renamed_numbers f numbers) event ≡ back_of numbers event
+  back_same numbers (event.R c e i) = ap (option_map (λ n. event.R c n i)) (call_same numbers c e)
+  back_same numbers (event.C c e i) = ap (option_map (λ n. event.C c n i)) (call_same numbers c e)
+  back_same numbers (event.T c e i) = ap (option_map (λ n. event.T c n i)) (call_same numbers c e)
+  back_same numbers (event.F c e i) = ap (option_map (λ n. event.F c n i)) (call_same numbers c e)
+  back_same numbers (event.E a) = unless_same numbers a (event.E a)
+  back_same numbers (event.S a) = unless_same numbers a (event.S a)
+  back_same numbers (event.D a k) = unless_same numbers a (event.D a k)
+  back_same numbers (event.X a) = unless_same numbers a (event.X a)
+  back_same numbers (event.B t x) = λ i. if added_same numbers t i || added_same numbers x i then None else Some (event.B t x)
+  back_same numbers event.Z = refl

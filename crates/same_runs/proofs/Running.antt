@@ -256,6 +256,11 @@ run_alike R one other alike h outs = record {
   events = λ actions. events_same R one.program other.program alike one.at other.at h actions;
   outputs = λ actions t. outs _ _ ((end_alike R one.program other.program alike one.at other.at h actions).seats t).local;
   applies = λ actions action. can_same R one.program other.program alike _ _ (end_alike R one.program other.program alike one.at other.at h actions) action;
+  further = λ actions more. (
+    run_forth R one.program other.program alike _ _ (end_alike R one.program other.program alike one.at other.at h actions) more,
+    run_back R one.program other.program alike _ _ (end_alike R one.program other.program alike one.at other.at h actions) more,
+  );
+  further_events = λ actions more. events_same R one.program other.program alike _ _ (end_alike R one.program other.program alike one.at other.at h actions) more;
   quiet = λ actions. (
     quiet_forth R one.program other.program alike _ _ (end_alike R one.program other.program alike one.at other.at h actions).seats,
     quiet_back R one.program other.program alike _ _ (end_alike R one.program other.program alike one.at other.at h actions).seats,

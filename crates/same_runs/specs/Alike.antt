@@ -40,12 +40,14 @@ pub record ProgramsAlike {L K : Type 0} (R : L → K → Type 0) (p : Program L)
   pub owner : (e : ℕ) → p.owner e ≡ q.owner e
   pub size : p.size ≡ q.size
 
--- Two programs run alike from their starts: a list of actions is a run of both or of neither, with the same events and the same output of each task, and
--- the same actions apply after it.
+-- Two programs run alike from their starts: a list of actions is a run of both or of neither, with the same events and the same output of each task. Behind
+-- it the same actions apply, the same further actions are runs, with the same events, and both are quiet or neither.
 pub record RunAlike {L K : Type 0} (one : Opened L) (other : Opened K) : Type 0 where
   pub size : one.program.size ≡ other.program.size
   pub run : (actions : List Action) → IsRun (numbered one.program) one.at actions ↔ IsRun (numbered other.program) other.at actions
   pub events : (actions : List Action) → events_of (numbered one.program) one.at actions ≡ events_of (numbered other.program) other.at actions
   pub outputs : (actions : List Action) (t : ℕ) → one.out ((end_from one actions).seats t).local ≡ other.out ((end_from other actions).seats t).local
   pub applies : (actions : List Action) (action : Action) → can (numbered one.program) (end_from one actions) action ≡ can (numbered other.program) (end_from other actions) action
+  pub further : (actions more : List Action) → IsRun (numbered one.program) (end_from one actions) more ↔ IsRun (numbered other.program) (end_from other actions) more
+  pub further_events : (actions more : List Action) → events_of (numbered one.program) (end_from one actions) more ≡ events_of (numbered other.program) (end_from other actions) more
   pub quiet : (actions : List Action) → IsQuiet one.program.ops (end_from one actions).seats ↔ IsQuiet other.program.ops (end_from other actions).seats

@@ -1,5 +1,9 @@
 pub mod Alike
+pub mod Laws
 pub mod Renamed
+pub mod RenamedNumbers
 pub mod RenamedScopes
 pub mod RenamedTasks
 pub mod RenamedValues
+pub mod Opened
+pub mod Replaying

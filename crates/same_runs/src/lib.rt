@@ -1,9 +1,16 @@
-//! The law that programs which are the same run alike.
+//! The laws of programs that are the same: equal but for places in the text, names compared by their texts. They run alike.
+//! The crate has no functions of its own but the one that carries the laws.
 #![tactic(auto)]
 
-ghost use Rattle.std.specs.Prelude.{◌≡◌, ℕ};
+ghost use Rattle.same_runs.specs.Laws.{SameRunAlike, SameAreFeasible, SameReplays, MetByItself};
 
-/// Carries nothing yet.
+/// Carries the laws of two programs that are the same (`Same`), of which the first meets `IsNamed` and the second has names. With the same inputs a list
+/// of actions is a run of both or of neither, with the same events and the same output of each task, and behind it both can do the same (`alike`); so a
+/// list of events is feasible in both or in neither (`feasible`). A text that replays a sequence of a program does so where it is read again, as a program
+/// that is the same (`replays`). The premises are met by each such program with itself (`met`).
 pub fn laws()
-    ensures none { (n : ℕ) → n ≡ n }
+    ensures alike { SameRunAlike }
+    ensures feasible { SameAreFeasible }
+    ensures replays { SameReplays }
+    ensures met { MetByItself }
 {}

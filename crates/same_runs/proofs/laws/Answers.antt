@@ -1,0 +1,5 @@
+use Rattle.same_runs.proofs.Replaying.{same_run_alike, same_are_feasible, same_replays, met_by_itself}
+use Rattle.same_runs.proofs.laws.Goals as goal
+
+pub returns : goal.returns
+returns c = record { alike = same_run_alike; feasible = same_are_feasible; replays = same_replays; met = met_by_itself }
