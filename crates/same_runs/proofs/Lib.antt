@@ -2,6 +2,7 @@ pub mod Declaring
 pub mod Going
 pub mod Lists
 pub mod Meeting
+pub mod Named
 pub mod Names
 pub mod Numbers
 pub mod Opening

@@ -3,7 +3,6 @@ use Rattle.std.proofs.Common.{◌++◌, ◌+◌, ◌||◌, ◌∙◌, ◌∷◌,
 use Rattle.std.proofs.Math.ListN.{get_or-map}
 use Rattle.std.proofs.lemmas.List.{length-map, map-append}
 use Rattle.std.specs.List.{fold, list_any, prefix_len}
-use Rattle.event_machine.specs.Applying.{same}
 
 pub if_pushed : {A B : Type 0} (h : A → B) (b : Bool) (x y : A) → (if b then h x else h y) ≡ h (if b then x else y)
 if_pushed h true x y = refl

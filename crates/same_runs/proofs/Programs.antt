@@ -5,7 +5,6 @@ use Rattle.std.proofs.lemmas.Option.{slice_get_past}
 use Rattle.std.specs.List.{AllZip}
 use Rattle.std.specs.Prelude.{IsSomeAnd}
 use Rattle.ada_tree.specs.Lexical.{IsIdentifier}
-use Rattle.ada_tree.specs.NameList.{AreNames}
 use Rattle.ada_tree.specs.PlainDecl.{no_decl}
 use Rattle.ada_tree.specs.PlainProgram.{PProgram}
 use Rattle.ada_tree.specs.PlainStmt.{body, no_handler, no_stmt}
@@ -30,7 +29,7 @@ use Rattle.same_runs.proofs.Tables.{carried, carried_keeps, carried_renames, kno
 use Rattle.same_runs.proofs.Tasks.{TasksAlike, outputs_same, respects}
 use Rattle.same_runs.proofs.Trees.{program_same}
 use Rattle.same_runs.specs.Alike.{ProgramsAlike, RunAlike, SeatsAlike, StatesAlike}
-use Rattle.same_runs.specs.Laws.{IsNamed}
+use Rattle.same_runs.specs.Laws.{IsNameTable, IsNamed}
 use Rattle.same_runs.specs.Renamed.{IsRenaming, KeepsTexts, no_span, renamed_program, renamed_types}
 use Rattle.same_runs.specs.RenamedTasks.{names_for, renamed_numbers, renamed_setting, renamed_task_info}
 use Rattle.same_runs.specs.Opened.{numbers_of}
@@ -75,7 +74,7 @@ length_first setup numbers (suc n) =
 
 -- ---- two programs that are the same
 
-module _ (p q : PProgram) (named : IsNamed p) (others : AreNames q.names) (same : Same p q) where
+module _ (p q : PProgram) (named : IsNamed p) (others : IsNameTable q.names) (same : Same p q) where
   abbrev all : List (List ℕ)
   all = p.names ++ q.names
 

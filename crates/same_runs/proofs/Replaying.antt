@@ -1,16 +1,16 @@
 -- What replays a sequence does so where it is read again.
 use Rattle.std.proofs.Common.{◌++◌, ◌∙◌, ◌∷◌, ◌≡◌, List, Option, [], ap, subst, sym}
 use Rattle.std.specs.List.{filter_map}
-use Rattle.ada_tree.proofs.SameLaws.{Same-refl}
 use Rattle.event_machine.specs.Applying.{can}
 use Rattle.event_machine.specs.Tallies.{IsKilledIn}
 use Rattle.event_machine.specs.declared.Action.{Action}
 use Rattle.event_machine.specs.declared.Event.{Event}
 use Rattle.syn_event.specs.Origin.{back_of}
 use Rattle.run_laws.specs.imitation.Shown.{Opened}
+use Rattle.same_runs.proofs.Named.{table_of, text_named}
 use Rattle.same_runs.proofs.Programs.{meant_same, programs_run_alike}
 use Rattle.same_runs.specs.Alike.{RunAlike}
-use Rattle.same_runs.specs.Laws.{MetByItself, SameAreFeasible, SameReplays, SameRunAlike}
+use Rattle.same_runs.specs.Laws.{ReadTextReplays, SameAreFeasible, SameReplays, SameRunAlike}
 use Rattle.same_runs.specs.Opened.{numbers_of}
 use Rattle.same_runs.specs.Replaying.{GoesOnWith, IsFeasible, IsOver, IsRunWith, Replays, ShowsAllFeasible, ShowsPrefix, shown, starting}
 
@@ -78,5 +78,6 @@ same_replays p text again named names same s h inputs others agree =
     subst (λ meant. Replays s (starting p inputs) (starting again others) meant) (λ i event. meant_same text again named names same event i)
     (replays_on s (starting p inputs) (starting text others) (starting again others) (back_of (numbers_of text)) (programs_run_alike text again named names same others) (h inputs others agree))
 
-pub met_by_itself : MetByItself
-met_by_itself p named = (named.names, Same-refl p)
+pub read_text_replays : ReadTextReplays
+read_text_replays p types numbers events text again names is_text others same h =
+    same_replays p text again (text_named p types numbers events text names is_text) (table_of again.names others) same events h

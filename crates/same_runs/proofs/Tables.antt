@@ -5,13 +5,14 @@ use Rattle.std.proofs.lemmas.List.{length-append}
 use Rattle.std.proofs.lemmas.Option.{slice_get_past, slice_get_within}
 use Rattle.std.proofs.lemmas.Slice.Eq.{bytes_eq-Decides}
 use Rattle.std.specs.Str.{bytes_eq}
-use Rattle.ada_tree.specs.NameList.{AreNames, predefined}
+use Rattle.ada_tree.specs.NameList.{predefined}
 use Rattle.ada_tree.specs.Same.{SameName}
 use Rattle.ada_tree.specs.declared.naming.NameId.{NameId}
 use Rattle.common_lemmas.proofs.Lists.{element_at, texts_differ}
 use Rattle.common_lemmas.proofs.Numbers.{equal_is, equal_self, lt_false, lt_true, unequal}
 use Rattle.common_lemmas.proofs.Options.{not_missing, some_same}
 use Rattle.common_lemmas.proofs.Truth.{if_false, if_true}
+use Rattle.same_runs.specs.Laws.{IsNameTable}
 use Rattle.same_runs.specs.Renamed.{IsRenaming, KeepsTexts}
 use Rattle.same_runs.specs.RenamedTasks.{names_for}
 
@@ -120,7 +121,7 @@ text_found (x ∷ rest) k beyond t = go (bytes_eq t x) refl (text_found rest (su
     go false h r = more r h
 
 -- an id of the second table with the text of one of the first goes to this
-carried_to : (n m : List (List ℕ)) → AreNames n → (a b : ℕ) (t : List ℕ) → slice_get n a ≡ Some t → slice_get m b ≡ Some t → carried n m b ≡ a
+carried_to : (n m : List (List ℕ)) → IsNameTable n → (a b : ℕ) (t : List ℕ) → slice_get n a ≡ Some t → slice_get m b ≡ Some t → carried n m b ≡ a
 carried_to n m names a b t e h = ap (carried_text n b) h ∙ go (text_place n 0 (length n + b) t) (text_found n 0 (length n + b) t)
   where
     go : (place : ℕ) → Found n 0 (length n + b) t place → place ≡ a
@@ -141,10 +142,10 @@ carried_keeps n m a = go (slice_get m a) refl
 -- ---- both
 
 -- one of the first 25 ids has its predefined text
-first_text : (n : List (List ℕ)) → AreNames n → (k : ℕ) → k < 25 → slice_get n k ≡ slice_get predefined k
+first_text : (n : List (List ℕ)) → IsNameTable n → (k : ℕ) → k < 25 → slice_get n k ≡ slice_get predefined k
 first_text n names k l = sym (front_there n 25 k l) ∙ ap (λ xs. slice_get xs k) names.begins
 
-module _ (n m : List (List ℕ)) (first : AreNames n) (second : AreNames m) where
+module _ (n m : List (List ℕ)) (first : IsNameTable n) (second : IsNameTable m) where
   -- where a name of the first table and one of the second have one text, both go to one id
   pub known_same : (a b : NameId) (t : List ℕ) → slice_get n a.0 ≡ Some t → SameName n m a b → stayed n m a.0 ≡ carried n m b.0
   known_same a b t e s = stayed_there n m a.0 (slice_get_within n a.0 t e) ∙ sym (carried_to n m first a.0 b.0 t e (sym s ∙ e))
