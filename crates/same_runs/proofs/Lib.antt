@@ -16,4 +16,3 @@ pub mod Tables
 pub mod Tasks
 pub mod Trees
 pub mod Waiting
-pub mod Reading

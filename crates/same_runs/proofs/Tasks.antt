@@ -8,7 +8,7 @@ use Rattle.task_model.specs.TaskOps.{task_ops}
 use Rattle.task_model.specs.Tasks.{Task, place_of, rest_of}
 use Rattle.same_runs.proofs.Going.{callers_same, raised_there_same}
 use Rattle.same_runs.proofs.Meeting.{accepted_same, delay_same, else_same, failed_same, finished_same, past_same, resumed_same}
-use Rattle.same_runs.proofs.Reading.{accepted-same, delay-same, else-same, failed-same, finished-same, passed-same, resumed-same, stepped-same}
+use Rattle.replay_runs.proofs.controls.replayed.Settings.{accepted-same, delay-same, else-same, failed-same, finished-same, passed-same, resumed-same, stepped-same}
 use Rattle.same_runs.proofs.Stepping.{stepped_with_same}
 use Rattle.same_runs.proofs.Waiting.{renamed_stand, stand_same}
 use Rattle.same_runs.specs.Alike.{Respects}

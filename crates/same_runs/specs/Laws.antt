@@ -9,7 +9,7 @@ use Rattle.event_machine.specs.declared.Event.{Event}
 use Rattle.syn_event.specs.Numbering.{Numbering}
 use Rattle.replay_model.specs.Promised.{IsReplayText}
 use Rattle.same_runs.specs.Alike.{RunAlike}
-use Rattle.same_runs.specs.Replaying.{IsFeasible, ReplaysProgram, starting}
+use Rattle.replay_runs.specs.controls.replayed.Replaying.{IsFeasible, ReplaysProgram, starting}
 
 -- what is asked of the names of a program: the first ids are those of the predefined names, and no text has two ids
 pub record IsNameTable (texts : List (List ℕ)) : Type 0 where

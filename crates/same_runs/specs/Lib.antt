@@ -5,5 +5,3 @@ pub mod RenamedNumbers
 pub mod RenamedScopes
 pub mod RenamedTasks
 pub mod RenamedValues
-pub mod Opened
-pub mod Replaying
