@@ -1,17 +1,17 @@
 -- What a renaming of ids does to frames: ends, exceptions, exits and callers, and to tasks that go on.
 use Rattle.std.proofs.Common.{◌++◌, ◌==◌, ◌∙◌, ◌∷◌, ◌≡◌, Err, List, None, Ok, Option, Result, Some, [], ap, arith, drop, map, option_map, refl, sym, unwrap_or, ℕ}
 use Rattle.std.proofs.lemmas.List.{drop-map, length-map}
-use Rattle.ada_tree.specs.PlainStmt.{PHandlers, PStmts, handler, handler_then, no_handler, no_stmt, stmt_then}
+use Rattle.ada_tree.specs.PlainStmt.{PHandlers, PMaybe, PStmts, absent, handler, handler_then, no_handler, no_stmt, present, stmt_then}
 use Rattle.ada_tree.specs.declared.naming.NameId.{NameId}
 use Rattle.ada_tree.specs.declared.naming.Word.{Word}
 use Rattle.ada_value.specs.Variables.{Variables}
 use Rattle.ada_value.specs.declared.values.Raised.{Raised}
 use Rattle.task_model.specs.Frames.{Around, Block, Control, Counting, Endless, Handling, Loop, Opened, OwnBody, PFrame, Turns, While, block_with, brought, brought_by, caller_at, callers_among, callers_in, control, exited_in, handled_among, handled_at, handled_by, handler_for, in_front, is_for, is_left, or_else, raised_in, raised_name, raised_named, settled, settled_in, unit_with, without_own}
 use Rattle.task_model.specs.Machine.{after}
-use Rattle.task_model.specs.Tasks.{Task, entered, gone_to, or_raised, outer_of, place_of, pushed, raised_there, vars_of, with_control}
+use Rattle.task_model.specs.Tasks.{Task, entered, gone_to, or_raised, outer_of, place_of, pushed, raised_there, stmts_or_none, vars_of, with_control}
 use Rattle.same_runs.proofs.Lists.{any_mapped, if_like, unwrapped}
 use Rattle.same_runs.proofs.Names.{kept, told}
-use Rattle.same_runs.specs.Renamed.{IsRenaming, renamed_handlers, renamed_id, renamed_stmt, renamed_stmts, renamed_word}
+use Rattle.same_runs.specs.Renamed.{IsRenaming, renamed_handlers, renamed_id, renamed_maybe, renamed_stmt, renamed_stmts, renamed_word}
 use Rattle.same_runs.specs.RenamedTasks.{renamed_around, renamed_control, renamed_frame, renamed_parameter, renamed_state, renamed_turns}
 use Rattle.same_runs.specs.RenamedValues.{renamed_object, renamed_raised, renamed_result, renamed_vars}
 use Rattle.ada_value.specs.declared.values.Raised.TheVariants as raised
@@ -20,6 +20,10 @@ module _ (f : ℕ → ℕ) (r : IsRenaming f) where
   pub in_front_same : (a b : PStmts) → in_front (renamed_stmts f a) (renamed_stmts f b) ≡ renamed_stmts f (in_front a b)
   in_front_same no_stmt b = refl
   in_front_same (stmt_then s a) b = ap (stmt_then (renamed_stmt f s)) (in_front_same a b)
+
+  pub or_none_same : (o : PMaybe) → stmts_or_none (renamed_maybe f o) ≡ renamed_stmts f (stmts_or_none o)
+  or_none_same absent = refl
+  or_none_same (present stmts) = refl
 
   -- ---- ends
 

@@ -2,7 +2,7 @@
 use Rattle.std.proofs.Common.{◌++◌, ◌∙◌, ◌∷◌, ◌≡◌, Bool, Err, List, None, Ok, Option, Result, Some, [], ap, false, map, option_map, refl, sym, true, ℕ, ℤ}
 use Rattle.std.proofs.lemmas.List.{map-append}
 use Rattle.ada_tree.specs.PlainExpr.{EAttribute, EAttributeOf, EBinary, EIndex, EInteger, EName, EParen, EUnary, PExpr}
-use Rattle.ada_tree.specs.PlainStmt.{PCall, PCallee, PMaybe, PStmt, PStmts, SAbort, SAccept, SAssign, SBlock, SCall, SCase, SConditional, SDelay, SExit, SGet, SIf, SLoop, SNewLine, SNull, SPut, SPutLine, SRaise, STimed, SWait, absent, no_stmt, present, stmt_then}
+use Rattle.ada_tree.specs.PlainStmt.{PCall, PCallee, PStmt, PStmts, SAbort, SAccept, SAssign, SBlock, SCall, SCase, SConditional, SDelay, SExit, SGet, SIf, SLoop, SNewLine, SNull, SPut, SPutLine, SRaise, STimed, SWait, no_stmt, stmt_then}
 use Rattle.ada_tree.specs.declared.naming.NameId.{NameId}
 use Rattle.ada_tree.specs.declared.naming.Span.{Span}
 use Rattle.ada_tree.specs.declared.statements.ParMode.{ParMode}
@@ -18,11 +18,11 @@ use Rattle.task_model.specs.Setting.{entry_parameters, lists_of, parameters_of}
 use Rattle.task_model.specs.Tasks.{Task, entered, gone_to, outer_of, place_of, rest_of, stmts_or_none, vars_of, with_control, with_vars}
 use Rattle.task_model.specs.Waits.{Accepts, Delays, Open, Terminates, alternative_for, delay_stmts}
 use Rattle.task_model.specs.declared.parameters.FormalParameter.{FormalParameter}
-use Rattle.same_runs.proofs.Going.{entered_same, gone_same, in_front_same, own_dropped, raised_there_same}
+use Rattle.same_runs.proofs.Going.{entered_same, gone_same, in_front_same, or_none_same, own_dropped, raised_there_same}
 use Rattle.same_runs.proofs.Names.{checked_for_same, kept, set_value_same, then_kept}
 use Rattle.same_runs.proofs.Settings.{entry_parameters_same, lists_same, parameters_same}
 use Rattle.same_runs.proofs.Waiting.{alternative_same, call_in_same, called_same, delay_stmts_same, handed_same, opened_same}
-use Rattle.same_runs.specs.Renamed.{IsRenaming, no_span, renamed_call, renamed_callee, renamed_expr, renamed_id, renamed_maybe, renamed_stmt, renamed_stmts, renamed_types}
+use Rattle.same_runs.specs.Renamed.{IsRenaming, no_span, renamed_call, renamed_callee, renamed_expr, renamed_id, renamed_stmt, renamed_stmts, renamed_types}
 use Rattle.same_runs.specs.RenamedTasks.{renamed_around, renamed_copies, renamed_frame, renamed_open, renamed_parameter, renamed_state}
 use Rattle.same_runs.specs.RenamedValues.{renamed_object, renamed_raised, renamed_result, renamed_vars}
 use Rattle.ada_value.specs.declared.values.Raised.TheVariants as raised
@@ -132,10 +132,6 @@ module _ (f : ℕ → ℕ) (r : IsRenaming f) where
   left_names_same [] s behind = refl
   left_names_same (c ∷ cs) s behind = refl
 
-  or_none_same : (o : PMaybe) → stmts_or_none (renamed_maybe f o) ≡ renamed_stmts f (stmts_or_none o)
-  or_none_same absent = refl
-  or_none_same (present stmts) = refl
-
   module _ (names : List (List ℕ)) where
     abbrev again : Task → Task
     again t = renamed_state f names t
@@ -225,7 +221,7 @@ module _ (f : ℕ → ℕ) (r : IsRenaming f) where
 
     else_at_same : (s : PStmt) (behind : PStmts) (t : Task) → else_taken_at (renamed_stmt f s) (stmts' behind) (again t) ≡ again (else_taken_at s behind t)
     else_at_same (SConditional call more otherwise s) behind t = entered_same f r names otherwise behind t
-    else_at_same (SWait x o s) behind t = ap (λ k. entered k (stmts' behind) (again t)) (or_none_same o) ∙ entered_same f r names (stmts_or_none o) behind t
+    else_at_same (SWait x o s) behind t = ap (λ k. entered k (stmts' behind) (again t)) (or_none_same f r o) ∙ entered_same f r names (stmts_or_none o) behind t
     else_at_same (SNull s) behind t = refl
     else_at_same (SAssign x e s) behind t = refl
     else_at_same (SDelay d s) behind t = refl

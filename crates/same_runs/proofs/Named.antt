@@ -1,9 +1,9 @@
 -- Names that are a table stay one where a text is interned, and so those of a replay text are one.
-use Rattle.std.proofs.Common.{◌++◌, ◌∙◌, ◌∷◌, ◌≡◌, ◌≤◌, ◌⊎◌, Bool, List, Some, [], ap, arith, false, flat_map, if◌then◌else◌, inl, inr, length, refl, slice_get, subst, suc, sym, true, zero, ℕ}
+use Rattle.std.proofs.Common.{◌++◌, ◌∙◌, ◌∷◌, ◌≡◌, ◌≤◌, ◌⊎◌, Bool, List, Some, [], ap, arith, codes, false, flat_map, if◌then◌else◌, inl, inr, length, refl, slice_get, subst, suc, sym, true, zero, ℕ}
 use Rattle.std.proofs.lemmas.List.{length-take, take-append-le}
 use Rattle.std.specs.List.{fold, list_any}
 use Rattle.std.specs.Str.{bytes_eq}
-use Rattle.ada_tree.proofs.Interning.{in_longer, nowhere}
+use Rattle.ada_tree.proofs.Interning.{AreNames-predefined, in_longer, nowhere}
 use Rattle.ada_tree.proofs.SameLaws.{Same-refl}
 use Rattle.ada_tree.specs.NameList.{AreNames, interned, predefined}
 use Rattle.ada_tree.specs.PlainProgram.{PProgram}
@@ -18,7 +18,7 @@ use Rattle.normal_model.specs.NormalTree.{normal_tree, variables_needed}
 use Rattle.replay_model.specs.Names.{added_texts, double_texts}
 use Rattle.replay_model.specs.Promised.{IsReplayText}
 use Rattle.replay_model.specs.ReplayTree.{replay_tree}
-use Rattle.same_runs.specs.Laws.{IsNameTable, IsNamed, MetByPlaced}
+use Rattle.same_runs.specs.Laws.{ExampleIsMet, IsNameTable, IsNamed, MetByPlaced}
 
 pub table_of : (names : List (List ℕ)) → AreNames names → IsNameTable names
 table_of names h = record { begins = h.begins; distinct = h.distinct }
@@ -69,3 +69,16 @@ text_named p types numbers events text names h = record {
 
 pub met_by_placed : MetByPlaced
 met_by_placed p names placed = record { named = record { names = table_of p.names names; tokens = placed_tokens p placed }; names = table_of p.names names; same = Same-refl p }
+
+with_p : IsNameTable (predefined ++ codes "P" ∷ [])
+with_p = table_added predefined (codes "P") (table_of predefined AreNames-predefined) refl
+
+with_x : IsNameTable (predefined ++ codes "X" ∷ [])
+with_x = table_added predefined (codes "X") (table_of predefined AreNames-predefined) refl
+
+pub example_is_met : ExampleIsMet
+example_is_met = record {
+  named = record { names = with_p; tokens = ((refl, omega arith, refl), tt, tt, ((tt, tt, tt), tt, tt)) };
+  names = table_added (predefined ++ codes "X" ∷ []) (codes "P") with_x refl;
+  same = (refl, refl, tt, ((tt, tt), tt));
+}

@@ -17,7 +17,7 @@ use Rattle.ada_static_rules.specs.StaticValue.{constant_named, first_of_two, is_
 use Rattle.common_lemmas.specs.division.Modulus.{modulus}
 use Rattle.ada_value.specs.Evaluating.{attribute_value, bound_value, bounds_of, combined, component_value, condition_of, constant_value, evaluated, fixed_value, literal_value, name_value, narrowed, operated, range_of, signed_value, unless_zero}
 use Rattle.ada_value.specs.Texts.{expr_output, image, integer_text, literal_text, name_text, part_output, parts_output}
-use Rattle.ada_value.specs.Values.{and_then, based, checked, fitted, is_true_value, lies_in, limits_named, limits_of_kind, limits_or, place_in, placed, position_of, value_at, value_in, word}
+use Rattle.ada_value.specs.Values.{and_then, based, checked, fitted, is_true_value, lies_in, limits_named, limits_of_kind, limits_or, lower_bound, place_in, placed, position_of, value_at, value_in, word}
 use Rattle.ada_value.specs.Variables.{Object, Variables, checked_for, component_place, object_named, place_among, set_value}
 use Rattle.ada_value.specs.declared.values.Limits.{Limits}
 use Rattle.ada_value.specs.declared.values.Raised.{Raised}
@@ -80,6 +80,9 @@ module _ (f : ℕ → ℕ) (r : IsRenaming f) where
 
   pub value_at_same : (types : TypeTable) (k : ℕ) (z : ℤ) → value_at (renamed_types f types) k z ≡ value_at types k z
   value_at_same types k z = ap (λ o. value_in k o z) (kind_at_same types k) ∙ value_in_same k (slice_get types.kinds k) z
+
+  pub lower_same : (types : TypeTable) (limits : Limits) → lower_bound (renamed_types f types) limits ≡ lower_bound types limits
+  lower_same types limits = value_at_same types limits.kind limits.first
 
   of_kind_same : (o : Option Kind) (z : ℤ) → is_of_kind (option_map (renamed_kind f) o) z ≡ is_of_kind o z
   of_kind_same None z = refl

@@ -19,7 +19,7 @@ use Rattle.syn_event.specs.Origin.{back_of, entry_number, original_call, origina
 use Rattle.syn_event.specs.declared.numbering.EntryInfo.{EntryInfo}
 use Rattle.syn_event.specs.declared.numbering.TaskInfo.{TaskInfo}
 use Rattle.ada_value.specs.Evaluating.{evaluated, narrowed, range_of}
-use Rattle.ada_value.specs.Values.{lies_in, limits_of, lower_bound, position_of}
+use Rattle.ada_value.specs.Values.{lies_in, limits_of, position_of}
 use Rattle.ada_value.specs.Variables.{Variables, form_of_kind, form_of_mark}
 use Rattle.ada_value.specs.declared.values.Form.{Form}
 use Rattle.ada_value.specs.declared.values.Limits.{Limits}
@@ -30,7 +30,7 @@ use Rattle.task_model.specs.Setting.{Setting}
 use Rattle.task_model.specs.Starting.{after_declaration, array_form, declared_objects, form_of, indicated, initial, initials, is_in_types, known_range, marked_form, object_of, objects_of, plain_form, started, started_in, unit_among, unit_of, unit_of_decl, unit_of_info, value_count, value_or_lower, with_objects}
 use Rattle.task_model.specs.Steps.{block_handlers, block_stmts}
 use Rattle.same_runs.proofs.Lists.{count_mapped, if_like, map_once, unwrapped}
-use Rattle.same_runs.proofs.Names.{evaluated_same, kept, kind_at_same, limits_at_same, mark_named_same, narrowed_same, range_same, value_at_same}
+use Rattle.same_runs.proofs.Names.{evaluated_same, kept, kind_at_same, limits_at_same, lower_same, mark_named_same, narrowed_same, range_same}
 use Rattle.same_runs.proofs.Settings.{entry_at_same, task_at_same}
 use Rattle.same_runs.specs.Renamed.{IsRenaming, renamed_body, renamed_bounds, renamed_decl, renamed_decls, renamed_drange, renamed_expr, renamed_handlers, renamed_id, renamed_init, renamed_kind, renamed_mark, renamed_program, renamed_shape, renamed_stmts, renamed_subind, renamed_types, renamed_word}
 use Rattle.same_runs.specs.RenamedTasks.{names_for, renamed_entry_info, renamed_numbers, renamed_setting, renamed_state, renamed_task_info, renamed_unit}
@@ -80,18 +80,15 @@ module _ (f : ℕ → ℕ) (r : IsRenaming f) where
 
   -- ---- initial values
 
-  lowest_same : (types : TypeTable) (limits : Limits) → lower_bound (renamed_types f types) limits ≡ lower_bound types limits
-  lowest_same types limits = value_at_same f r types limits.kind limits.first
-
   lower_by : (types : TypeTable) (limits : Limits) (x : Result Value Raised) → value_or_lower (renamed_types f types) limits (kept f r x) ≡ value_or_lower types limits x
-  lower_by types limits (Ok v) = ap (λ w. if lies_in limits (position_of v) then v else w) (lowest_same types limits)
-  lower_by types limits (Err x) = lowest_same types limits
+  lower_by types limits (Ok v) = ap (λ w. if lies_in limits (position_of v) then v else w) (lower_same f r types limits)
+  lower_by types limits (Err x) = lower_same f r types limits
 
   initial_same : (types : TypeTable) (limits : Limits) (e : PExpr) → initial (renamed_types f types) limits (renamed_expr f e) ≡ initial types limits e
   initial_same types limits e = ap (value_or_lower (renamed_types f types) limits) (evaluated_same f r types [] e) ∙ lower_by types limits (evaluated types [] e)
 
   initials_same : (types : TypeTable) (form : Form) (o : Option PInit) → initials (renamed_types f types) form (option_map (renamed_init f) o) ≡ initials types form o
-  initials_same types form None = ap (replicate (value_count form.index)) (lowest_same types form.limits)
+  initials_same types form None = ap (replicate (value_count form.index)) (lower_same f r types form.limits)
   initials_same types form (Some (IOne e)) = ap (replicate (value_count form.index)) (initial_same types form.limits e)
   initials_same types form (Some (IList es s)) = map_once (renamed_expr f) (initial (renamed_types f types) form.limits) (initial types form.limits) (initial_same types form.limits) es
   initials_same types form (Some (IOthers e s)) = ap (replicate (value_count form.index)) (initial_same types form.limits e)

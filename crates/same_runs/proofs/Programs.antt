@@ -1,6 +1,6 @@
 -- Two programs that are the same go over to one, each by a renaming of its ids, and so do their tasks as they start.
-use Rattle.std.proofs.Common.{◌++◌, ◌+◌, ◌∙◌, ◌∷◌, ◌≡◌, List, None, Option, Some, [], ap, ap₂, arith, false, length, refl, slice_get, slice_index_or, subst, suc, sym, zero, ℕ, ℤ}
-use Rattle.std.proofs.lemmas.List.{length-append, length-map}
+use Rattle.std.proofs.Common.{◌++◌, ◌∙◌, ◌∷◌, ◌≡◌, List, None, Option, Some, [], ap, ap₂, arith, false, length, refl, slice_get, slice_index_or, subst, suc, sym, zero, ℕ, ℤ}
+use Rattle.std.proofs.lemmas.List.{length-map}
 use Rattle.std.proofs.lemmas.Option.{slice_get_past}
 use Rattle.std.specs.List.{AllZip}
 use Rattle.std.specs.Prelude.{IsSomeAnd}
@@ -32,6 +32,7 @@ use Rattle.same_runs.specs.Alike.{ProgramsAlike, RunAlike, SeatsAlike, StatesAli
 use Rattle.same_runs.specs.Laws.{IsNameTable, IsNamed}
 use Rattle.same_runs.specs.Renamed.{IsRenaming, KeepsTexts, no_span, renamed_program, renamed_types}
 use Rattle.same_runs.specs.RenamedTasks.{names_for, renamed_numbers, renamed_setting, renamed_task_info}
+use Rattle.task_laws.proofs.invariants.Beginning.{length_first}
 use Rattle.normal_runs.specs.forms.Normalisable.{numbers_of}
 use Rattle.replay_runs.specs.controls.replayed.Replaying.{starting}
 
@@ -65,12 +66,6 @@ module _ (R : Task → Task → Type 0) (one other : ProgramWithInputs) (numbers
       SeatsAlike R (slice_index_or (first_tasks one numbers n) t (completed nobody)) (slice_index_or (first_tasks other others m) t (completed nobody))
   seats_alike h n m e t = subst (λ k. SeatsAlike R (slice_index_or (first_tasks one numbers n) t (completed nobody)) (slice_index_or (first_tasks other others k) t (completed nobody))) e
       (zip_at (SeatsAlike R) (first_tasks one numbers n) (first_tasks other others n) (completed nobody) (completed nobody) (first_alike n) (record { local = h; standing = refl }) t)
-
-length_first : (setup : ProgramWithInputs) (numbers : Numbering) (n : ℕ) → length (first_tasks setup numbers n) ≡ n
-length_first setup numbers zero = refl
-length_first setup numbers (suc n) =
-    let e : length (first_tasks setup numbers n) ≡ n = length_first setup numbers n in
-    length-append (first_tasks setup numbers n) (live (started (setting_of setup numbers) setup.inputs n) ∷ []) ∙ (let k : length (first_tasks setup numbers n) + 1 ≡ suc n = omega (arith, e) in k)
 
 -- ---- two programs that are the same
 

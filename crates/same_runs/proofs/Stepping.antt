@@ -1,7 +1,7 @@
 -- What a renaming of ids does to the local steps of a task (5, 11.3, 14.3).
 use Rattle.std.proofs.Common.{◌&&◌, ◌++◌, ◌+ℤ◌, ◌-ℤ◌, ◌||◌, ◌∙◌, ◌∷◌, ◌≡◌, Bool, List, None, Ok, Option, Some, [], ap, drop, if◌then◌else◌, map, option_map, pos, refl, ℕ, ℤ}
 use Rattle.ada_tree.specs.PlainExpr.{PDrange, PExpr, RGiven, RMarked}
-use Rattle.ada_tree.specs.PlainStmt.{LFor, LWhile, PArms, PBody, PCaseArms, PChoice, PMaybe, PPart, PScheme, PStmt, PStmts, PTarget, SAbort, SAccept, SAssign, SBlock, SCall, SCase, SConditional, SDelay, SExit, SGet, SIf, SLoop, SNewLine, SNull, SPut, SPutLine, SRaise, STimed, SWait, absent, arm, arm_then, body, case_arm, case_arm_then, no_arm, no_case_arm, no_stmt, present, stmt_then}
+use Rattle.ada_tree.specs.PlainStmt.{LFor, LWhile, PArms, PBody, PCaseArms, PChoice, PMaybe, PPart, PScheme, PStmt, PStmts, PTarget, SAbort, SAccept, SAssign, SBlock, SCall, SCase, SConditional, SDelay, SExit, SGet, SIf, SLoop, SNewLine, SNull, SPut, SPutLine, SRaise, STimed, SWait, arm, arm_then, body, case_arm, case_arm_then, no_arm, no_case_arm, no_stmt, stmt_then}
 use Rattle.ada_tree.specs.declared.naming.NameId.{NameId}
 use Rattle.ada_tree.specs.declared.naming.Word.{Word}
 use Rattle.ada_value.specs.Evaluating.{range_of}
@@ -15,7 +15,7 @@ use Rattle.task_model.specs.Frames.{Around, Block, Counting, Endless, Handling, 
 use Rattle.task_model.specs.Stands.{stepped_at, stepped_behind, stepped_with}
 use Rattle.task_model.specs.Steps.{aim_at, aim_of, arm_taken, assign_step, assigned, block_step, case_step, case_taken, choice_end, choice_fits, choices_fit, condition, counted_on, counted_range, counted_so_far, counting_begun, exception_meant, exit_step, exit_test, exited, get_step, got, has_turn, if_step, left_in, line_end, loop_left, loop_parameter, loop_step, put_step, raise_step, range_checked, stored, target_object, turn_step}
 use Rattle.task_model.specs.Tasks.{Task, entered, gone_to, outer_of, place_of, pushed, raised_there, stmts_or_none, value_of, vars_of, with_control, with_input, with_text, with_vars}
-use Rattle.same_runs.proofs.Going.{entered_same, exited_same, gone_same, handled_by_same, or_raised_kept, or_raised_like, pushed_same, raised_named_same, raised_there_same, settled_control, settled_same, turns_dropped}
+use Rattle.same_runs.proofs.Going.{entered_same, exited_same, gone_same, handled_by_same, or_none_same, or_raised_kept, or_raised_like, pushed_same, raised_named_same, raised_there_same, settled_control, settled_same, turns_dropped}
 use Rattle.same_runs.proofs.Lists.{if_like}
 use Rattle.same_runs.proofs.Names.{checked_for_same, component_place_same, condition_same, evaluated_same, if_kept, kept, limits_named_same, limits_of_kind_same, parts_same, range_same, set_value_same, then_kept, value_at_same}
 use Rattle.same_runs.specs.Renamed.{IsRenaming, renamed_arms, renamed_body, renamed_case_arms, renamed_choice, renamed_drange, renamed_expr, renamed_id, renamed_maybe, renamed_part, renamed_scheme, renamed_stmt, renamed_stmts, renamed_target, renamed_word}
@@ -80,12 +80,8 @@ module _ (f : ℕ → ℕ) (r : IsRenaming f) (names : List (List ℕ)) where
 
   -- ---- if and case
 
-  or_none_same : (o : PMaybe) → stmts_or_none (renamed_maybe f o) ≡ stmts' (stmts_or_none o)
-  or_none_same absent = refl
-  or_none_same (present stmts) = refl
-
   branch_same : (behind : PStmts) (t : Task) (o : PMaybe) → entered (stmts_or_none (renamed_maybe f o)) (stmts' behind) (again t) ≡ again (entered (stmts_or_none o) behind t)
-  branch_same behind t o = ap (λ k. entered k (stmts' behind) (again t)) (or_none_same o) ∙ entered_same f r names (stmts_or_none o) behind t
+  branch_same behind t o = ap (λ k. entered k (stmts' behind) (again t)) (or_none_same f r o) ∙ entered_same f r names (stmts_or_none o) behind t
 
   arms_same : (t : Task) (arms : PArms) (otherwise : PMaybe) → arm_taken (again t) (renamed_arms f arms) (renamed_maybe f otherwise) ≡ renamed_result f (renamed_maybe f) (arm_taken t arms otherwise)
   arms_same t no_arm otherwise = refl

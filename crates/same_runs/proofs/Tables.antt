@@ -15,17 +15,10 @@ use Rattle.common_lemmas.proofs.Truth.{if_false, if_true}
 use Rattle.same_runs.specs.Laws.{IsNameTable}
 use Rattle.same_runs.specs.Renamed.{IsRenaming, KeepsTexts}
 use Rattle.same_runs.specs.RenamedTasks.{names_for}
+use Rattle.legal_programs.proofs.rewritten_types.Lookups.{place-more}
+use Rattle.replay_structure.proofs.spots.Placed.{place-past}
 
 -- ---- places in a list
-
-past_front : {A : Type 0} (xs ys : List A) (k : ℕ) → slice_get (xs ++ ys) (length xs + k) ≡ slice_get ys k
-past_front [] ys k = ap (slice_get ys) (let e : 0 + k ≡ k = omega arith in e)
-past_front (x ∷ xs) ys k = ap (slice_get (x ∷ (xs ++ ys))) (let e : suc (length xs) + k ≡ suc (length xs + k) = omega arith in e) ∙ past_front xs ys k
-
-in_front : {A : Type 0} (xs ys : List A) (k : ℕ) (x : A) → slice_get xs k ≡ Some x → slice_get (xs ++ ys) k ≡ Some x
-in_front [] ys k x e = absurd (not_missing x (sym (slice_get_past [] k (omega arith)) ∙ e))
-in_front (y ∷ xs) ys zero x e = e
-in_front (y ∷ xs) ys (suc k) x e = in_front xs ys k x e
 
 behind_all : {A : Type 0} (xs : List A) (k : ℕ) → slice_get xs k ≡ None → length xs ≤ k
 behind_all xs k e = go (cases_lt k (length xs))
@@ -93,7 +86,7 @@ pub stayed_keeps : (n m : List (List ℕ)) → KeepsTexts (stayed n m) n (n ++ m
 stayed_keeps n m a = go (slice_get n a) refl
   where
     go : (o : Option (List ℕ)) → slice_get n a ≡ o → slice_get (n ++ m) (stayed n m a) ≡ slice_get n a
-    go (Some t) e = ap (slice_get (n ++ m)) (stayed_there n m a (slice_get_within n a t e)) ∙ (in_front n m a t e ∙ sym e)
+    go (Some t) e = ap (slice_get (n ++ m)) (stayed_there n m a (slice_get_within n a t e)) ∙ (place-more n m a t e ∙ sym e)
     go None e = ap (slice_get (n ++ m)) (stayed_beyond n m a (behind_all n a e))
         ∙ (slice_get_past (n ++ m) (a + length m) (let h = length_both n m in let l = behind_all n a e in omega (arith, h, l)) ∙ sym e)
 
@@ -132,11 +125,11 @@ pub carried_keeps : (n m : List (List ℕ)) → KeepsTexts (carried n m) m (n ++
 carried_keeps n m a = go (slice_get m a) refl
   where
     by_place : (t : List ℕ) → slice_get m a ≡ Some t → (place : ℕ) → Found n 0 (length n + a) t place → slice_get (n ++ m) place ≡ slice_get m a
-    by_place t e place (found_at j s p) = ap (slice_get (n ++ m)) (p ∙ (let q : 0 + j ≡ j = omega arith in q)) ∙ (in_front n m j t s ∙ sym e)
-    by_place t e place (found_nowhere lacks p) = ap (slice_get (n ++ m)) p ∙ past_front n m a
+    by_place t e place (found_at j s p) = ap (slice_get (n ++ m)) (p ∙ (let q : 0 + j ≡ j = omega arith in q)) ∙ (place-more n m j t s ∙ sym e)
+    by_place t e place (found_nowhere lacks p) = ap (slice_get (n ++ m)) p ∙ place-past n m (length n) a refl
 
     go : (o : Option (List ℕ)) → slice_get m a ≡ o → slice_get (n ++ m) (carried n m a) ≡ slice_get m a
-    go None e = ap (λ o. slice_get (n ++ m) (carried_text n a o)) e ∙ past_front n m a
+    go None e = ap (λ o. slice_get (n ++ m) (carried_text n a o)) e ∙ place-past n m (length n) a refl
     go (Some t) e = ap (λ o. slice_get (n ++ m) (carried_text n a o)) e ∙ by_place t e (text_place n 0 (length n + a) t) (text_found n 0 (length n + a) t)
 
 -- ---- both

@@ -10,9 +10,8 @@ use Rattle.ada_static_rules.specs.Sites.{is_present}
 use Rattle.event_machine.specs.declared.CallForm.{CallForm}
 use Rattle.event_machine.specs.declared.Choice.{Choice}
 use Rattle.ada_value.specs.Evaluating.{evaluated}
-use Rattle.ada_value.specs.Values.{and_then, checked, lower_bound, truth_limits}
+use Rattle.ada_value.specs.Values.{and_then, checked, truth_limits}
 use Rattle.ada_value.specs.Variables.{Variables}
-use Rattle.ada_value.specs.declared.values.Limits.{Limits}
 use Rattle.ada_value.specs.declared.values.Raised.{Raised}
 use Rattle.ada_value.specs.declared.values.Value.{Value}
 use Rattle.task_model.specs.Calls.{Called, call_in, call_of, called, called_by, called_with, opened_object, opened_objects, opening, opening_values, openings, values_handed}
@@ -22,8 +21,9 @@ use Rattle.task_model.specs.Stands.{At, Raises, Stand, Steps, abort_stand, call_
 use Rattle.task_model.specs.Tasks.{Task, place_of, rest_of, stmts_or_none, value_of, vars_of}
 use Rattle.task_model.specs.Waits.{Accepts, Delays, Open, Terminates, accept_choice, accept_opened, accepting_at, accepts_member, alternative_for, alternatives_open, choices_of, delay_choice, delay_here, delay_part, delay_stmts, delays_with, else_choice, first_accepting, guard_holds, is_shorter, kind_opened, open_at, opened_if, terminate_choice}
 use Rattle.task_model.specs.declared.parameters.FormalParameter.{FormalParameter}
+use Rattle.same_runs.proofs.Going.{or_none_same}
 use Rattle.same_runs.proofs.Lists.{any_mapped, find_mapped}
-use Rattle.same_runs.proofs.Names.{checked_kept, evaluated_same, kept, then_kept, then_like, value_at_same}
+use Rattle.same_runs.proofs.Names.{checked_kept, evaluated_same, kept, lower_same, then_kept, then_like}
 use Rattle.same_runs.proofs.Settings.{callee_same, entry_parameters_same, entry_same, lists_same, member_index_same}
 use Rattle.same_runs.specs.Renamed.{IsRenaming, renamed_accept, renamed_alt_kind, renamed_alts, renamed_args, renamed_call, renamed_callee, renamed_expr, renamed_head, renamed_maybe, renamed_stmt, renamed_stmts, renamed_types}
 use Rattle.same_runs.specs.RenamedTasks.{renamed_around, renamed_lists, renamed_numbers, renamed_open, renamed_parameter, renamed_setting, renamed_state}
@@ -39,9 +39,6 @@ module _ (f : ℕ → ℕ) (r : IsRenaming f) where
 
   -- ---- calls
 
-  lower_same : (types : TypeTable) (limits : Limits) → lower_bound (renamed_types f types) limits ≡ lower_bound types limits
-  lower_same types limits = value_at_same f r types limits.kind limits.first
-
   opening_in : (types : TypeTable) (vars : Variables) (x : FormalParameter) (e : PExpr) →
       and_then (evaluated (renamed_types f types) (renamed_vars f vars) (renamed_expr f e)) (λ v. checked x.limits v) ≡ kept f r (and_then (evaluated types vars e) (λ v. checked x.limits v))
   opening_in types vars x e = then_kept f r (λ (v : Value). v) (evaluated types vars e) _ _ _ (evaluated_same f r types vars e) (λ v. checked_kept f r x.limits v)
@@ -49,20 +46,20 @@ module _ (f : ℕ → ℕ) (r : IsRenaming f) where
   opening_same : (types : TypeTable) (vars : Variables) (x : FormalParameter) (mode : ParMode) (e : PExpr) →
       opening (renamed_types f types) (renamed_vars f vars) (renamed_parameter f x) mode (renamed_expr f e) ≡ kept f r (opening types vars x mode e)
   opening_same types vars x Take e = opening_in types vars x e
-  opening_same types vars x Give e = ap Ok (lower_same types x.limits)
+  opening_same types vars x Give e = ap Ok (lower_same f r types x.limits)
   opening_same types vars x Both e = opening_in types vars x e
 
   openings_same : (types : TypeTable) (vars : Variables) (xs : List FormalParameter) (es : List PExpr) →
       openings (renamed_types f types) (renamed_vars f vars) (map (renamed_parameter f) xs) (map (renamed_expr f) es) ≡ kept f r (openings types vars xs es)
   openings_same types vars [] es = refl
-  openings_same types vars (x ∷ xs) [] = then_kept f r (λ (vs : List Value). vs) (openings types vars xs []) _ _ _ (openings_same types vars xs []) (λ vs. ap (λ v. Ok (v ∷ vs)) (lower_same types x.limits))
+  openings_same types vars (x ∷ xs) [] = then_kept f r (λ (vs : List Value). vs) (openings types vars xs []) _ _ _ (openings_same types vars xs []) (λ vs. ap (λ v. Ok (v ∷ vs)) (lower_same f r types x.limits))
   openings_same types vars (x ∷ xs) (e ∷ es) = then_kept f r (λ (vs : List Value). vs) (opening types vars x x.mode e) _ _ _ (opening_same types vars x x.mode e)
       (λ v. then_kept f r (λ (vs : List Value). vs) (openings types vars xs es) _ _ _ (openings_same types vars xs es) (λ vs. refl))
 
   pub opened_same : (types : TypeTable) (xs : List FormalParameter) (vs : List Value) →
       opened_objects (renamed_types f types) (map (renamed_parameter f) xs) vs ≡ map (renamed_object f) (opened_objects types xs vs)
   opened_same types [] vs = refl
-  opened_same types (x ∷ xs) [] = λ i. opened_object (renamed_parameter f x) (lower_same types x.limits i) ∷ opened_same types xs [] i
+  opened_same types (x ∷ xs) [] = λ i. opened_object (renamed_parameter f x) (lower_same f r types x.limits i) ∷ opened_same types xs [] i
   opened_same types (x ∷ xs) (v ∷ vs) = ap (λ os. opened_object (renamed_parameter f x) v ∷ os) (opened_same types xs vs)
 
   module _ (names : List (List ℕ)) where
@@ -129,16 +126,12 @@ module _ (f : ℕ → ℕ) (r : IsRenaming f) where
     guard_same t (Some e) = then_kept f r (λ (b : Bool). b) (value_of t e) _ _ _ (evaluated_same f r t.setting.types (vars_of t) e)
         (λ v. then_kept f r (λ (b : Bool). b) (checked truth_limits v) _ _ _ (checked_kept f r truth_limits v) (λ w. refl))
 
-    or_none_alike : (o : PMaybe) → stmts_or_none (renamed_maybe f o) ≡ renamed_stmts f (stmts_or_none o)
-    or_none_alike absent = refl
-    or_none_alike (present stmts) = refl
-
     accepted_at : (t : Task) (head : PHead) (o : PMaybe) (behind : PStmts) (e : ℕ) →
         and_then (member_index (renamed_setting f names t.setting) (renamed_vars f (vars_of t)) e (option_map (renamed_expr f) head.index))
         (λ i. Ok (Accepts e i (renamed_head f head) (stmts_or_none (renamed_maybe f o)) (renamed_stmts f behind)))
         ≡ renamed_result f (renamed_open f) (and_then (member_index t.setting (vars_of t) e head.index) (λ i. Ok (Accepts e i head (stmts_or_none o) behind)))
     accepted_at t head o behind e = then_kept f r (renamed_open f) (member_index t.setting (vars_of t) e head.index) _ _ _ (member_index_same f r names t.setting (vars_of t) e head.index)
-        (λ i. ap (λ k. Ok (Accepts e i (renamed_head f head) k (renamed_stmts f behind))) (or_none_alike o))
+        (λ i. ap (λ k. Ok (Accepts e i (renamed_head f head) k (renamed_stmts f behind))) (or_none_same f r o))
 
     accept_same : (t : Task) (a : PAccept) (behind : PStmts) → accept_opened (renamed_state f names t) (renamed_accept f a) (renamed_stmts f behind) ≡ renamed_result f (renamed_open f) (accept_opened t a behind)
     accept_same t (accepting head o) behind =

@@ -9,6 +9,7 @@ use Rattle.event_machine.specs.declared.Event.{Event}
 use Rattle.syn_event.specs.Numbering.{Numbering}
 use Rattle.replay_model.specs.Promised.{IsReplayText}
 use Rattle.same_runs.specs.Alike.{RunAlike}
+use Rattle.same_runs.specs.Example.{first_program, second_program}
 use Rattle.replay_runs.specs.controls.replayed.Replaying.{IsFeasible, ReplaysProgram, starting}
 
 -- what is asked of the names of a program: the first ids are those of the predefined names, and no text has two ids
@@ -47,3 +48,9 @@ pub record IsMetBy (p : PProgram) : Type 0 where
 
 abbrev pub MetByPlaced : Type 0
 MetByPlaced = (p : PProgram) → AreNames p.names → IsWellPlaced p → IsMetBy p
+
+-- So are two programs whose ids differ.
+pub record ExampleIsMet : Type 0 where
+  pub named : IsNamed first_program
+  pub names : IsNameTable second_program.names
+  pub same : Same first_program second_program

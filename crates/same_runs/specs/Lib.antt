@@ -1,4 +1,5 @@
 pub mod Alike
+pub mod Example
 pub mod Laws
 pub mod Renamed
 pub mod RenamedNumbers
