@@ -1,7 +1,7 @@
 -- The ids of two tables of names as ids of one table: those of the first stay, and those of the second go to those of the first with their texts, or behind all.
-use Rattle.std.proofs.Common.{◌++◌, ◌+◌, ◌<◌, ◌==◌, ◌∙◌, ◌∷◌, ◌≡◌, ◌≤◌, ◌⊎◌, Bool, List, None, Option, Some, [], ap, arith, false, if◌then◌else◌, length, nat_lt, refl, slice_get, suc, sym, take, true, true≢false, zero, ℕ, ⊎_elim}
+use Rattle.std.proofs.Common.{◌++◌, ◌+◌, ◌<◌, ◌==◌, ◌∙◌, ◌∷◌, ◌≡◌, ◌≤◌, ◌⊎◌, Bool, List, None, Option, Some, [], ap, arith, drop, false, if◌then◌else◌, length, nat_lt, refl, slice_get, suc, sym, take, true, true≢false, zero, ℕ, ⊎_elim}
 use Rattle.std.proofs.lemmas.Bool.{cases_lt}
-use Rattle.std.proofs.lemmas.List.{length-append}
+use Rattle.std.proofs.lemmas.List.{length-append, take-append-drop}
 use Rattle.std.proofs.lemmas.Option.{slice_get_past, slice_get_within}
 use Rattle.std.proofs.lemmas.Slice.Eq.{bytes_eq-Decides}
 use Rattle.std.specs.Str.{bytes_eq}
@@ -25,13 +25,6 @@ behind_all xs k e = go (cases_lt k (length xs))
   where
     go : (k < length xs) ⊎ (length xs ≤ k) → length xs ≤ k
     go c = ⊎_elim (λ l. let h = element_at xs k l in absurd (not_missing h.0 (sym e ∙ h.1))) (λ l. l) c
-
--- the texts of the first n ids
-front_there : {A : Type 0} (xs : List A) (n k : ℕ) → k < n → slice_get (take n xs) k ≡ slice_get xs k
-front_there xs zero k l = absurd (omega (arith, l))
-front_there [] (suc n) k l = refl
-front_there (x ∷ xs) (suc n) zero l = refl
-front_there (x ∷ xs) (suc n) (suc k) l = front_there xs n k (omega (arith, l))
 
 -- ---- renamings
 
@@ -135,8 +128,10 @@ carried_keeps n m a = go (slice_get m a) refl
 -- ---- both
 
 -- one of the first 25 ids has its predefined text
-first_text : (n : List (List ℕ)) → IsNameTable n → (k : ℕ) → k < 25 → slice_get n k ≡ slice_get predefined k
-first_text n names k l = sym (front_there n 25 k l) ∙ ap (λ xs. slice_get xs k) names.begins
+first_text : (n : List (List ℕ)) → IsNameTable n → (k : ℕ) (t : List ℕ) → slice_get predefined k ≡ Some t → slice_get n k ≡ Some t
+first_text n names k t e =
+    ap (λ xs. slice_get xs k) (sym (take-append-drop 25 n))
+    ∙ place-more (take 25 n) (drop 25 n) k t (ap (λ xs. slice_get xs k) names.begins ∙ e)
 
 module _ (n m : List (List ℕ)) (first : IsNameTable n) (second : IsNameTable m) where
   -- where a name of the first table and one of the second have one text, both go to one id
@@ -149,7 +144,7 @@ module _ (n m : List (List ℕ)) (first : IsNameTable n) (second : IsNameTable m
   pub stayed_renames : IsRenaming (stayed n m)
   stayed_renames = record {
     same = told_apart (stayed n m) (tells (stayed n m) n (n ++ m) first.distinct (stayed_keeps n m) beyond);
-    fixed = λ k l. let h = first_id k l in stayed_there n m k (slice_get_within n k h.0 (first_text n first k l ∙ h.1));
+    fixed = λ k l. let h = first_id k l in stayed_there n m k (slice_get_within n k h.0 (first_text n first k h.0 h.1));
   }
     where
       beyond : (a b : ℕ) → slice_get n a ≡ None → slice_get n b ≡ None → stayed n m a ≡ stayed n m b → a ≡ b
@@ -158,7 +153,7 @@ module _ (n m : List (List ℕ)) (first : IsNameTable n) (second : IsNameTable m
   pub carried_renames : IsRenaming (carried n m)
   carried_renames = record {
     same = told_apart (carried n m) (tells (carried n m) m (n ++ m) second.distinct (carried_keeps n m) beyond);
-    fixed = λ k l. let h = first_id k l in carried_to n m first k k h.0 (first_text n first k l ∙ h.1) (first_text m second k l ∙ h.1);
+    fixed = λ k l. let h = first_id k l in carried_to n m first k k h.0 (first_text n first k h.0 h.1) (first_text m second k h.0 h.1);
   }
     where
       beyond : (a b : ℕ) → slice_get m a ≡ None → slice_get m b ≡ None → carried n m a ≡ carried n m b → a ≡ b
@@ -166,8 +161,8 @@ module _ (n m : List (List ℕ)) (first : IsNameTable n) (second : IsNameTable m
 
   -- there are names
   pub names_there : (names : List (List ℕ)) → names_for names n ≡ names
-  names_there names = go n (first_text n first 0 (omega arith))
+  names_there names = let h = first_id 0 (omega arith) in go n (first_text n first 0 h.0 h.1)
     where
-      go : (xs : List (List ℕ)) → slice_get xs 0 ≡ slice_get predefined 0 → names_for names xs ≡ names
-      go [] e = absurd (not_missing _ e)
+      go : (xs : List (List ℕ)) {t : List ℕ} → slice_get xs 0 ≡ Some t → names_for names xs ≡ names
+      go [] {t} e = absurd (not_missing t e)
       go (x ∷ xs) e = refl
