@@ -1,14 +1,13 @@
 -- What comes of a file by tasks: lists, or its first fault, and never two of these.
-use Rattle.std.proofs.Common.{◌≡◌, ℕ, zero, suc, ◌+◌, ◌-◌, ◌^◌, ◌<◌, ◌≤◌, Bool, true, false, cond, List, [], ◌∷◌, ◌++◌, length, None, Some, Option, Result, Ok, Err, refl, ap, ◌∙◌, sym, subst, arith, decimal, All, inl, inr, append-nil}
-use Rattle.std.specs.Prelude.{◌&&◌, ◌==◌, not, nat_lt, is_some, unwrap_or, option_and_then}
-use Rattle.std.specs.List.{sum_by}
+use Rattle.std.proofs.Common.{◌≡◌, ℕ, zero, suc, ◌+◌, ◌-◌, ◌^◌, ◌<◌, ◌≤◌, Bool, true, false, cond, List, [], ◌∷◌, ◌++◌, length, None, Some, Option, Result, Ok, Err, refl, ap, ◌∙◌, sym, arith, decimal, All, inl, inr, append-nil}
+use Rattle.std.specs.Prelude.{◌&&◌, ◌==◌, not, unwrap_or, option_and_then}
 use Rattle.std.proofs.lemmas.Bool.{lt-ltb, le-ltb}
 use Rattle.std.proofs.lemmas.List.Elements.{All-head, All-tail}
 use Rattle.std.proofs.lemmas.List.Sums.{sum_by-cons}
 use Rattle.event_machine.specs.declared.Event.{Event}
-use Rattle.syn_event.specs.Numbering.{Numbering, original_tasks}
+use Rattle.syn_event.specs.Numbering.{Numbering}
 use Rattle.syn_event.specs.DeclaredTasks.{text_of}
-use Rattle.text_lines.specs.Lines.{is_line_end, first_line, cut}
+use Rattle.text_lines.specs.Lines.{first_line}
 use Rattle.text_lines.specs.Numerals.{natural}
 use Rattle.text_lines.proofs.Marking.{right_of}
 use Rattle.text_lines.proofs.Spelling.{natural-of_decimal}
@@ -17,10 +16,10 @@ use Rattle.seq_file.specs.declared.errors.SeqError.TheVariants.{BadLine, AfterEn
 use Rattle.seq_file.specs.Short.{IsShort}
 use Rattle.seq_file.specs.Lines.{is_upper_name}
 use Rattle.seq_file.specs.Files.{is_end, has_ended}
-use Rattle.seq_file.specs.Lists.{most_listed, task_line, list_text, lists_text, list_count, listed, list_header_line, ListText, IsListFit, ListReads, list_header_fault, asked_by_line, begins_list, next_list_fault, next_event_fault, last_ended, line_behind, IsBehindLists, IsInList, FailsBehindLists, FailsInList, HasFirstListFault}
+use Rattle.seq_file.specs.Lists.{most_listed, task_line, lists_text, list_count, listed, list_header_line, ListText, IsListFit, ListReads, list_header_fault, asked_by_line, begins_list, next_list_fault, next_event_fault, last_ended, line_behind, IsBehindLists, IsInList, FailsBehindLists, FailsInList, HasFirstListFault}
 use Rattle.seq_file.proofs.Filing.{lines}
 use Rattle.seq_file.proofs.Heading.{list_header-sound, list_header-cut, tasks-small}
-use Rattle.seq_file.proofs.TaskLines.{task_text, task-cut, asked-there, begins-there}
+use Rattle.seq_file.proofs.TaskLines.{task-cut, asked-there, begins-there}
 use Rattle.seq_file.proofs.ListTexts.{text-behind, lists-cons}
 use Rattle.seq_file.proofs.ListTaking.{fail_or, event_at, behind_line, with_events, take_events, beyond, beyond-is, events-taken}
 use Rattle.common_lemmas.proofs.Truth.{clash}

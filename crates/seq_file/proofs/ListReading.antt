@@ -1,16 +1,13 @@
 -- A file read list by list: what was read so far, and what comes of the next list.
-use Rattle.std.proofs.Common.{◌≡◌, ◌≢◌, ℕ, ◌+◌, ◌-◌, ◌^◌, ◌<◌, ◌≤◌, Bool, true, false, cond, List, [], ◌∷◌, ◌++◌, length, None, Some, Option, refl, ap, ◌∙◌, sym, subst, arith, decimal, All, ◌⊎◌, inl, inr, append_assoc, append-nil, length-append}
-use Rattle.std.specs.Prelude.{◌||◌, ◌&&◌, ◌==◌, not, nat_lt}
+use Rattle.std.proofs.Common.{◌≡◌, ◌≢◌, ℕ, ◌+◌, ◌-◌, ◌^◌, ◌<◌, ◌≤◌, Bool, true, false, cond, List, [], ◌∷◌, ◌++◌, length, None, Some, Option, refl, ap, ◌∙◌, sym, subst, arith, decimal, ◌⊎◌, inl, inr, append_assoc, append-nil, length-append}
+use Rattle.std.specs.Prelude.{◌&&◌, ◌==◌, not}
 use Rattle.std.proofs.lemmas.Bool.{le-ltb, lt-ltb}
 use Rattle.std.proofs.lemmas.List.Elements.{All-nil, All-push}
 use Rattle.std.proofs.lemmas.List.Sums.{sum_by_push}
-use Rattle.ded_io.specs.Written.{◌⧺◌}
 use Rattle.event_machine.specs.declared.Event.{Event}
-use Rattle.syn_event.specs.EventText.{event_text}
 use Rattle.syn_event.specs.Numbering.{Numbering}
 use Rattle.text_lines.specs.Capped.{capped}
 use Rattle.text_lines.specs.Numerals.{natural}
-use Rattle.text_lines.proofs.Capping.{capped-small, capped-large}
 use Rattle.text_lines.proofs.Marking.{cut-parts}
 use Rattle.text_lines.proofs.Spelling.{word-of_natural}
 use Rattle.seq_file.specs.declared.errors.SeqError.{SeqError}
@@ -18,14 +15,14 @@ use Rattle.seq_file.specs.declared.errors.SeqError.TheVariants.{BadLine, OtherPr
 use Rattle.seq_file.specs.declared.list_reading.Place.{Place}
 use Rattle.seq_file.specs.Short.{IsShort}
 use Rattle.seq_file.specs.Known.{is_known}
-use Rattle.seq_file.specs.Files.{is_end, has_ended}
-use Rattle.seq_file.specs.Lists.{most_listed, task_line, list_text, list_count, listed, list_header_line, ListText, IsListFit, AreListsFit, ListReads, begins_list, next_list_fault, next_event_fault, last_ended, line_behind, IsBehindLists, IsInList, HasFirstListFault}
+use Rattle.seq_file.specs.Files.{has_ended}
+use Rattle.seq_file.specs.Lists.{most_listed, task_line, list_count, listed, list_header_line, ListText, IsListFit, ListReads, begins_list, next_list_fault, next_event_fault, last_ended, line_behind, IsBehindLists, IsInList, HasFirstListFault}
 use Rattle.seq_file.specs.inner.NextEvents.{IsEventLine}
-use Rattle.seq_file.specs.inner.NextLists.{IsBehindListHeader, IsListHead, IsNextListed, IsNextList, FailsInside, FailsAtList}
+use Rattle.seq_file.specs.inner.NextLists.{IsBehindListHeader, IsListHead, IsNextListed, IsNextList, FailsAtList}
 use Rattle.seq_file.proofs.Filing.{lines, lines-cons, lines-append, push-follows, push-ended}
 use Rattle.seq_file.proofs.Heading.{list_header-begins}
 use Rattle.seq_file.proofs.ListTexts.{text-behind, text-push, list-joined}
-use Rattle.seq_file.proofs.TaskLines.{task_text, task-line, asked-written}
+use Rattle.seq_file.proofs.TaskLines.{task-line, asked-written}
 use Rattle.seq_file.proofs.Wording.{event-written}
 use Rattle.common_lemmas.proofs.Truth.{clash}
 

@@ -1,30 +1,25 @@
 -- A file by tasks taken apart from its front: what comes of it is one answer, which each way to read the file agrees with.
-use Rattle.std.proofs.Common.{◌≡◌, ◌≢◌, ℕ, zero, suc, ◌+◌, ◌-◌, ◌^◌, ◌<◌, ◌≤◌, Bool, true, false, cond, List, [], ◌∷◌, ◌++◌, length, None, Some, Option, Result, Ok, Err, refl, ap, ◌∙◌, sym, subst, arith, decimal, All, inl, inr, append_assoc, append-nil, length-append}
-use Rattle.std.specs.Prelude.{◌||◌, ◌&&◌, ◌==◌, not, nat_lt, is_some, unwrap_or, option_and_then}
-use Rattle.std.proofs.lemmas.Bool.{cases_Bool, lt-ltb, ne_eqb, true≢false}
+use Rattle.std.proofs.Common.{◌≡◌, ℕ, zero, suc, ◌+◌, ◌<◌, ◌≤◌, Bool, true, false, cond, List, [], ◌∷◌, ◌++◌, length, None, Some, Option, Result, Ok, Err, refl, ap, ◌∙◌, sym, arith, length-append}
+use Rattle.std.specs.Prelude.{◌||◌, ◌&&◌, ◌==◌, nat_lt, unwrap_or, option_and_then}
+use Rattle.std.proofs.lemmas.Bool.{lt-ltb, ne_eqb}
 use Rattle.std.proofs.lemmas.List.Elements.{All-head, All-tail}
 use Rattle.event_machine.specs.declared.Event.{Event}
 use Rattle.event_machine.specs.declared.Event.TheVariants.{Z}
 use Rattle.syn_event.specs.EventText.{event_text}
-use Rattle.syn_event.specs.Numbering.{Numbering, original_tasks}
-use Rattle.syn_event.specs.DeclaredTasks.{text_of}
+use Rattle.syn_event.specs.Numbering.{Numbering}
 use Rattle.text_lines.specs.Lines.{is_line_end, first_line, cut}
 use Rattle.text_lines.proofs.Marking.{right_of, first-line_cut}
-use Rattle.text_lines.proofs.Spelling.{natural-of_decimal}
 use Rattle.seq_file.specs.declared.errors.SeqError.{SeqError}
 use Rattle.seq_file.specs.declared.errors.SeqError.TheVariants.{BadNumber, BadLine, AfterEnd, TooMany}
 use Rattle.seq_file.specs.Short.{IsShort}
 use Rattle.seq_file.specs.Known.{is_known}
-use Rattle.seq_file.specs.Lines.{event_of_line, is_upper_name}
+use Rattle.seq_file.specs.Lines.{event_of_line}
 use Rattle.seq_file.specs.Files.{is_end, has_ended, NothingFollowsEnd, fault_of_event}
-use Rattle.seq_file.specs.Lists.{most_listed, task_line, list_text, lists_text, list_count, listed, list_header_line, ListText, IsListFit, ListReads, list_header_fault, asked_by_line, begins_list, next_list_fault, next_event_fault, last_ended, line_behind, IsBehindLists, IsInList, FailsBehindLists, FailsInList, HasFirstListFault}
+use Rattle.seq_file.specs.Lists.{most_listed, list_count, begins_list, next_event_fault}
 use Rattle.seq_file.proofs.Filing.{lines, AreKnown, lines-cons, line-cut}
-use Rattle.seq_file.proofs.Heading.{list_header-sound, list_header-cut, tasks-small}
-use Rattle.seq_file.proofs.TaskLines.{task_text, task-line, task-cut, asked-there, begins-there}
-use Rattle.seq_file.proofs.ListTexts.{text-behind, lists-cons}
 use Rattle.seq_file.proofs.Wording.{event-read}
 use Rattle.common_lemmas.proofs.Lists.{never_empty}
-use Rattle.common_lemmas.proofs.Truth.{clash, or_none}
+use Rattle.common_lemmas.proofs.Truth.{or_none}
 
 -- ---- one list
 

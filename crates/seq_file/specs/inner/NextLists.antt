@@ -1,5 +1,5 @@
 -- What the reader finds next in a file by tasks: the header, the list of each task, and each event (this project's format, number 2).
-use Rattle.std.specs.Prelude.{◌≡◌, ◌≤◌, ◌<◌, ◌+◌, ℕ, Bool, false, List, ◌++◌, length, ◌⊎◌, Some, None}
+use Rattle.std.specs.Prelude.{◌≡◌, ◌≤◌, ◌<◌, ◌+◌, ℕ, false, List, ◌++◌, length, ◌⊎◌, Some, None}
 use Rattle.event_machine.specs.declared.Event.{Event}
 use Rattle.syn_event.specs.Numbering.{Numbering}
 use Rattle.text_lines.specs.Capped.{capped}

@@ -1,5 +1,4 @@
-use Rattle.std.proofs.Common.{◌≡◌, ◌≤◌, ◌<◌, ◌+◌, ◌-◌, ◌^◌, ℕ, [], false, refl, sym, subst, arith}
-use Rattle.seq_file.specs.Lists.{list_count}
+use Rattle.std.proofs.Common.{◌≡◌, ◌<◌, ◌+◌, ◌-◌, ◌^◌, false, refl, sym, subst, arith}
 use Rattle.seq_file.specs.declared.list_reading.Place.{Place}
 use Rattle.seq_file.proofs.ListReading.{IsReadInList, inside-start, inside-more, inside-end, inside-fault}
 use Rattle.seq_file.proofs.list_reading.read_list.Goals as goal

@@ -1,4 +1,4 @@
-use Rattle.std.proofs.Common.{◌≡◌, ◌≤◌, ◌<◌, ◌+◌, ℕ, List, [], ◌∷◌, ◌++◌, length, map, false, Vec, Global, refl, ap, ◌∙◌, sym, subst, arith, inl, inr, length-append}
+use Rattle.std.proofs.Common.{◌≡◌, ◌≤◌, ◌<◌, List, [], ◌∷◌, length, map, false, Vec, Global, refl, ap, ◌∙◌, sym, subst, arith, inl, inr, length-append}
 use Rattle.event_machine.specs.declared.Event.{Event}
 use Rattle.seq_file.specs.declared.errors.SeqError.TheVariants.{AfterEnd}
 use Rattle.seq_file.specs.declared.list_reading.Place.{Place}
