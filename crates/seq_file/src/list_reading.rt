@@ -1,6 +1,6 @@
 // Reading a sequence file by tasks.
 
-ghost use Rattle.std.specs.Prelude.{◌≡◌, ◌≢◌, ◌<◌, ◌≤◌, ◌+◌, ◌-◌, ◌^◌, ◌++◌, [], ◌∷◌, ℕ, OnOk, List, length, map, IfOk, IfErr, IfSome, MatchOption, MatchResult, true, false, Option, Some, option_map, nat_lt, ◌&&◌, ◌==◌, not, if◌then◌else◌};
+ghost use Rattle.std.specs.Prelude.{◌≡◌, ◌≢◌, ◌<◌, ◌≤◌, ◌+◌, ◌-◌, ◌^◌, ◌++◌, [], ◌∷◌, ℕ, OnOk, List, length, map, IfOk, IfErr, MatchOption, MatchResult, true, false, Option, Some, option_map, nat_lt, ◌&&◌, ◌==◌, not, if◌then◌else◌};
 ghost use Rattle.event_machine.specs.declared.Event.{Event};
 ghost use Rattle.syn_event.specs.DeclaredTasks.{text_of};
 ghost use Rattle.syn_event.specs.Numbering.{Numbering};
