@@ -1,3 +1,4 @@
 pub mod FirstRefusal
 pub mod Programs
 pub mod Bodies
+pub mod Broken

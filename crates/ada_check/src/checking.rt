@@ -7,7 +7,7 @@ ghost use Rattle.syn_event.specs.CheckScope.{CheckScope};
 ghost use Rattle.syn_event.specs.CheckSites.{check_sites, around_program, counted_sites};
 ghost use Rattle.syn_event.specs.Legal.{Legal};
 ghost use Rattle.ada_check_rules.specs.rules.RefusedFirst.{refused_first};
-ghost use Rattle.ada_check.specs.Verdicts.{IsWalkedProgram, TellsWhy};
+ghost use Rattle.ada_check.specs.Verdicts.{IsWalkedProgram, MeansBroken, TellsWhy};
 
 use crate::declarations::walk_decls;
 use crate::errors::CheckError;
@@ -105,8 +105,8 @@ fn check_on(alloc: Global, types: Types, p: &Program, mode: Mode) -> Result<Chec
     }
 }
 
-/// Whether a program meets all static rules, by a mode. It asks nothing of the program. Its types and the numbers of its tasks and entries are handed out where it does. Otherwise the error tells the first refusal: by the first twelve rules where one of these refuses something, and else by the others. `Memory` alone may stand for every answer.
-pub fn check(alloc: Global, p: &Program, mode: Mode) -> Result<Checked, CheckError>
+// The same of any program.
+fn judged(alloc: Global, p: &Program, mode: Mode) -> Result<Checked, CheckError>
     ensures ok { IfOk result (λ c. Legal (plain_program p.now) c.types c.numbers mode) }
     ensures err { IfErr result (TellsWhy (plain_program p.now) mode) }
 {
@@ -115,4 +115,13 @@ pub fn check(alloc: Global, p: &Program, mode: Mode) -> Result<Checked, CheckErr
         Err(TypeError::Memory) => Err(CheckError::Memory),
         Err(error) => Err(CheckError::Rule(error)),
     }
+}
+
+/// Whether a program meets all static rules, by a mode. It asks nothing of the program. Its types and the numbers of its tasks and entries are handed out where it does. Otherwise the error tells the first refusal, by the first twelve rules where one of these refuses something, and else by the others; then the program is legal with no types and numbers. `Memory` alone may stand for every answer.
+pub fn check(alloc: Global, p: &Program, mode: Mode) -> Result<Checked, CheckError>
+    ensures ok { IfOk result (λ c. Legal (plain_program p.now) c.types c.numbers mode) }
+    ensures err { IfErr result (TellsWhy (plain_program p.now) mode) }
+    ensures broken { IfErr result (MeansBroken (plain_program p.now) mode) }
+{
+    judged(alloc, p, mode)
 }

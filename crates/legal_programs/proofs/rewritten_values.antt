@@ -3,3 +3,4 @@ pub mod Named
 pub mod Evaluating
 pub mod Objects
 pub mod Staying
+pub mod FirstDeclarations

@@ -8,3 +8,4 @@ pub mod Declared
 pub mod Static
 pub mod Actuals
 pub mod Carried
+pub mod Instances

@@ -6,3 +6,4 @@ pub mod Preludes
 pub mod Declared
 pub mod Laws
 pub mod inner
+pub mod Instances

@@ -6,3 +6,4 @@ pub mod Normal
 pub mod RangeForms
 pub mod Examples
 pub mod NamesApart
+pub mod Instance

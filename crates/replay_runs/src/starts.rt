@@ -2,7 +2,7 @@
 //! one that carries the laws.
 
 ghost use Rattle.replay_runs.specs.starts.Formals.{FormalsStay};
-ghost use Rattle.replay_runs.specs.starts.Legal.{LegalFindsPermits, LegalHasBodies, LegalHasFormals, LegalRuns, LegalStarts};
+ghost use Rattle.replay_runs.specs.starts.Legal.{LegalFindsPermits, LegalHasBodies, LegalHasFormals, LegalIsAsked, LegalRuns, LegalStarts};
 ghost use Rattle.replay_runs.specs.starts.Laws.{IntegerIsThere, LookUpsStay, PermitIsFound, TextsStart, UnitsStart};
 
 /// Carries the laws of the start of a replay text. INTEGER means INTEGER in each program (`integer`). So a unit starts with the objects that
@@ -10,7 +10,8 @@ ghost use Rattle.replay_runs.specs.starts.Laws.{IntegerIsThere, LookUpsStay, Per
 /// (`names`), and the names of the permit mean these variables (`permit`). By its own types and numbers each task of a replay text
 /// starts so (`texts`), and its entries have the formals of the normal form, those of a permit, or none (`formals`). A legal program has a
 /// body for each task (`legal_bodies`), so the tasks of its replay text run the units that they should (`legal_units`) and start so
-/// (`legal_texts`); the names of the permit mean its variables then (`legal_permits`), and the entries have those formals (`legal_formals`).
+/// (`legal_texts`); the names of the permit mean its variables then (`legal_permits`), and the entries have those formals (`legal_formals`):
+/// it is as the laws of all programs ask (`met`).
 pub fn laws()
     ensures integer { IntegerIsThere }
     ensures units { UnitsStart }
@@ -23,4 +24,5 @@ pub fn laws()
     ensures legal_texts { LegalStarts }
     ensures legal_permits { LegalFindsPermits }
     ensures legal_formals { LegalHasFormals }
+    ensures met { LegalIsAsked }
 {}

@@ -6,3 +6,4 @@ pub mod Entries
 pub mod Kept
 pub mod Numbered
 pub mod Examples
+pub mod Asked

@@ -7,15 +7,16 @@ use Rattle.ada_tree.specs.declared.naming.Span.{Span}
 use Rattle.ada_tree.specs.declared.naming.Word.{Word}
 use Rattle.ada_tree.specs.declared.static_types.Kind.TheVariants.{Integer, Truth}
 use Rattle.ada_tree.specs.PlainExpr.{PExpr, EInteger, EName, EIndex, PSubind, PBounds, RGiven}
-use Rattle.ada_tree.specs.PlainDecl.{OPlain, OArray, DObject, DTask, PDecls, decls_of}
+use Rattle.ada_tree.specs.PlainStmt.{PCall}
+use Rattle.ada_tree.specs.PlainDecl.{PEntry, OPlain, OArray, DObject, DTask, PDecls, decls_of}
 use Rattle.ada_static_rules.specs.Scope.{Scope, Range, Thing, Variable, Literal, AnException, AnotherUnit, NameMeaning, meaning, reading, AsArray, range_of_mark}
 use Rattle.ada_static_rules.specs.Declaring.{predefined_types, first_scope, after_decls, in_body, inner_scope, after_objects}
-use Rattle.ada_static_rules.specs.Demand.{node}
+use Rattle.ada_static_rules.specs.Demand.{node, addresses, calls}
 use Rattle.ada_static_rules.specs.Sites.{site}
 use Rattle.legal_programs.specs.rewritten_types.Agreement.{IsScalar}
 use Rattle.legal_programs.proofs.rewritten_types.Owning.{whole-first}
 use Rattle.legal_programs.specs.alike_scopes.Alike.{SameMark, of_values, no_thing, a_task, the_procedure, a_unit, SameThing, same_type, same_literal, same_exception, no_values, Alike}
-use Rattle.legal_programs.specs.alike_scopes.Laws.{IsMetBut}
+use Rattle.legal_programs.specs.alike_scopes.Laws.{IsMetBut, IsMet}
 use Rattle.legal_programs.proofs.alike_scopes.Tables.{types-self}
 use Rattle.legal_programs.proofs.alike_scopes.Naming.{inside-alike}
 use Rattle.legal_programs.proofs.alike_scopes.Inner.{objects-alike, new-objects}
@@ -35,9 +36,13 @@ between a b = record { first = EInteger a at; last = EInteger b at }
 abbrev ranged : ℕ → ℕ → PSubind
 ranged a b = record { mark = w 0; bounds = Some (between a b) }
 
+-- `entry E;`
+abbrev entry : PEntry
+entry = record { name = w 29; family = None; formals = []; span = at }
+
 -- the body of the task T of a procedure, before its objects
 abbrev before_objects : Scope
-before_objects = in_body (after_decls (first_scope (w 25)) (decls_of (DTask record { name = w 26; of_kind = false; entries = []; priorities = [] } at ∷ []))) (w 26)
+before_objects = in_body (after_decls (first_scope (w 25)) (decls_of (DTask record { name = w 26; of_kind = false; entries = entry ∷ []; priorities = [] } at ∷ []))) (w 26)
 
 -- `A : array (1 .. 2) of INTEGER range 0 .. 1; X : INTEGER range 1 .. 3;`
 abbrev objects : PDecls
@@ -102,7 +107,7 @@ literal : Self (Some (Literal 1))
 literal = same_literal 1 refl refl (Truth, refl)
 
 pub all_self : AllByRecursion (λ (x : NameMeaning). Self (Some x.thing)) before_objects.names
-all_self = (no_values (a_task [] refl) (a_task [] refl), (no_values (the_procedure refl) (the_procedure refl), (same_type 0 0 refl refl (number_mark 0 _ refl refl), (same_type 1 1 refl refl (number_mark 1 _ refl refl), (same_type 2 2 refl refl (number_mark 2 _ refl refl), (same_type 3 3 refl refl truth_mark, (literal, (literal, (raised, (raised, (raised, (raised, (raised, (raised, (unit, (unit, (unit, (unit, (unit, (unit, tt))))))))))))))))))))
+all_self = (no_values (a_task _ refl) (a_task _ refl), (no_values (the_procedure refl) (the_procedure refl), (same_type 0 0 refl refl (number_mark 0 _ refl refl), (same_type 1 1 refl refl (number_mark 1 _ refl refl), (same_type 2 2 refl refl (number_mark 2 _ refl refl), (same_type 3 3 refl refl truth_mark, (literal, (literal, (raised, (raised, (raised, (raised, (raised, (raised, (unit, (unit, (unit, (unit, (unit, (unit, tt))))))))))))))))))))
 
 start : Alike old before_objects before_objects
 start = record {
@@ -132,3 +137,29 @@ met_there = alike_refuses_same old left right alike (node false component) (refl
 -- a name that is not old may mean anything on the right
 new_there : meaning right record { 0 = 40 } ≡ Some (Variable 4)
 new_there = refl
+
+-- ---- what is asked is met
+
+-- `T.E`
+abbrev call : PCall
+call = record { task = record { name = w 26; index = None }; entry = w 29; args = None }
+
+pub is_met : IsMet
+is_met = (
+  old,
+  left,
+  right,
+  record { 0 = 27 },
+  component,
+  call,
+  record {
+    alike = alike;
+    moved = λ h. cc;
+    old_expr = (refl, refl);
+    met = met;
+    same_task = record { left = _; right = _; left_means = refl; right_means = refl; entries = λ id o. refl };
+    old_entry = refl;
+    addressed = record { known = refl; matched = refl; static = refl; ranged = refl; variable = refl; readable = refl; counted = refl; chosen = refl; arrays = refl; texts = refl; exceptions = refl };
+    called = record { known = refl; matched = refl; static = refl; ranged = refl; variable = refl; readable = refl; counted = refl; chosen = refl; arrays = refl; texts = refl; exceptions = refl };
+  },
+)

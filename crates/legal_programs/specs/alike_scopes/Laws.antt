@@ -7,7 +7,7 @@ use Rattle.ada_tree.specs.PlainExpr.{PExpr, PDrange}
 use Rattle.ada_tree.specs.PlainStmt.{PTarget, PCallee, PCall, PFormal}
 use Rattle.ada_tree.specs.PlainDecl.{PDecls}
 use Rattle.ada_static_rules.specs.Scope.{Scope, Thing, meaning}
-use Rattle.ada_static_rules.specs.Demand.{Demand, addresses, calls, Site}
+use Rattle.ada_static_rules.specs.Demand.{Demand, node, addresses, calls, Site}
 use Rattle.ada_static_rules.specs.ExprTypes.{kind_of}
 use Rattle.ada_static_rules.specs.StaticValue.{is_static, value_of}
 use Rattle.ada_static_rules.specs.Declaring.{inner_scope, with_formals, with_loop_parameter, after_objects, drange_kind, drange_range}
@@ -104,3 +104,18 @@ LoopIsAlike = (old : ℕ → Bool) (s t : Scope) → Alike old s t → (w : Word
 -- The objects of a body keep two scopes alike, where their types are old.
 abbrev pub ObjectsAreAlike : Type 0
 ObjectsAreAlike = (old : ℕ → Bool) (s t : Scope) → Alike old s t → s.in_main ≡ false → (ds : PDecls) → AreOldObjects old ds → Alike old (after_objects s ds) (after_objects t ds)
+
+-- Two scopes are as the laws ask, though a variable has other places in the second: they are alike, an expression of old names is met in the first one,
+-- and so is the call of an old entry of a task that is the same in both.
+pub record AreAsked (old : ℕ → Bool) (s t : Scope) (id : NameId) (e : PExpr) (c : PCall) : Type 0 where
+  pub alike : Alike old s t
+  pub moved : meaning s id ≡ meaning t id → ⊥
+  pub old_expr : IsOldExpr old e
+  pub met : IsMetBut (site s (node false e))
+  pub same_task : IsSameTask old (meaning s c.task.name.name) (meaning t c.task.name.name)
+  pub old_entry : old c.entry.name.0 ≡ true
+  pub addressed : IsMetBut (site s (addresses c.task))
+  pub called : IsMetBut (site s (calls c))
+
+abbrev pub IsMet : Type 0
+IsMet = (old : ℕ → Bool) × (s : Scope) × (t : Scope) × (id : NameId) × (e : PExpr) × (c : PCall) × AreAsked old s t id e c

@@ -7,16 +7,16 @@ use Rattle.ada_tree.specs.PlainExpr.{PExpr}
 use Rattle.ada_tree.specs.PlainDecl.{PShape, OPlain, PDecls}
 use Rattle.ada_tree.specs.PlainProgram.{PProgram}
 use Rattle.ada_tree.specs.Every.{EveryExpr, EveryShape, EveryDecls}
-use Rattle.ada_tree.specs.WellPlaced.{HasTokens}
+use Rattle.ada_tree.specs.WellPlaced.{BodiesLast, HasTokens}
 use Rattle.ada_static_rules.specs.StaticValue.{mark_named}
 use Rattle.ada_static_rules.specs.Declaring.{first_scope}
-use Rattle.ada_static_rules.specs.Refusals.{types_in}
+use Rattle.ada_static_rules.specs.Refusals.{MeetsTypeRules, types_in}
 use Rattle.ada_value.specs.Values.{limits_named}
 use Rattle.ada_value.specs.Variables.{Variables}
 use Rattle.ada_value.specs.Evaluating.{evaluated}
 use Rattle.task_model.specs.Starting.{form_of, objects_of}
 use Rattle.legal_programs.specs.rewritten_types.Agreement.{Agrees}
-use Rattle.legal_programs.specs.rewritten_types.Rewriting.{Front, NamesOnce}
+use Rattle.legal_programs.specs.rewritten_types.Rewriting.{Front, staying, NamesOnce}
 use Rattle.legal_programs.specs.rewritten_types.Laws.{behind}
 use Rattle.legal_programs.specs.rewritten_values.Values.{AgreeOnValues, LiteralsWithin, is_known, old_names}
 
@@ -50,3 +50,14 @@ ObjectsStay =
 abbrev pub MarkedForm : Type 0
 MarkedForm = (T : TypeTable) (w : Word) (m : Mark) → mark_named T w.name ≡ Some m → is_known T m.kind ≡ true →
     form_of T (OPlain record { mark = w; bounds = None }) ≡ Some record { limits = limits_named T w.name; index = None }
+
+-- Of a program whose bodies stand last: its first declarations may stay, and declare each name once, and the tables of both agree on old names.
+pub record FirstAgree (old : ℕ → Bool) (p : PProgram) (first : PDecls) : Type 0 where
+  pub once : NamesOnce p.name p.decls
+  pub front : Front (first_scope p.name) p.decls first
+  pub agree : Agrees old (types_in p) (behind p.name first).types
+  pub literals : LiteralsWithin (length p.names) (types_in p)
+
+-- So it is of each program that meets the rules on types, whichever names are old, with what is left without its tasks and bodies.
+abbrev pub IsMet : Type 0
+IsMet = (old : ℕ → Bool) (p : PProgram) → MeetsTypeRules p → BodiesLast p.decls → HasTokens p → FirstAgree old p (staying (first_scope p.name) p.decls)

@@ -16,11 +16,14 @@ use Rattle.syn_event.specs.AllNumbers.{all_numbers}
 use Rattle.normal_model.specs.NormalTree.{normal_tree}
 use Rattle.normal_structure.proofs.types.Examples.{original, ordered, own}
 use Rattle.normal_structure.specs.units.Laws.{numbers_made}
-use Rattle.normal_structure.specs.numbers.Laws.{NoneIsDed}
+use Rattle.normal_structure.specs.numbers.Laws.{NoneIsDed, IsMet}
 use Rattle.normal_structure.proofs.numbers.Numbered.{normal_has_numbers}
 
 pub none_is_ded : NoneIsDed original
 none_is_ded = ((λ e same. cc), tt)
+
+pub is_met : IsMet
+is_met = (original, ordered, own, none_is_ded, refl)
 
 -- the numbers of a normal form as any program has them, and as its definition tells them
 abbrev counted : PProgram → Numbering

@@ -15,8 +15,8 @@ use Rattle.syn_event.specs.AllNumbers.{all_numbers}
 use Rattle.task_model.specs.Setting.{Setting}
 use Rattle.normal_model.specs.Names.{task_name}
 use Rattle.normal_model.specs.NormalTree.{tasks_beside}
-use Rattle.normal_structure.specs.types.Laws.{setting_of}
-use Rattle.normal_structure.specs.units.Laws.{TellUnits}
+use Rattle.normal_structure.specs.types.Laws.{IsOrdered, setting_of}
+use Rattle.normal_structure.specs.units.Laws.{TellUnits, IsMet}
 
 abbrev o : Span
 o = record { start = 0; end = 0 }
@@ -31,7 +31,7 @@ abbrev task : ℕ → Bool → PDecl
 task id kind = DTask record { name = w id; of_kind = kind; entries = []; priorities = [] } o
 
 -- `task type W; A : array (1 .. 2) of W; task T;` and the two bodies
-abbrev original : PProgram
+abbrev pub original : PProgram
 original = record {
   names = predefined ++ codes "P" ∷ codes "W" ∷ codes "A" ∷ codes "T" ∷ [];
   text_io = false;
@@ -65,3 +65,9 @@ tell = record {
     ),
   );
 }
+
+ordered : IsOrdered original
+ordered = record { rules = refl; last = (tt, tt) }
+
+pub is_met : IsMet
+is_met = (original, ordered, tell, refl)

@@ -1,5 +1,5 @@
 -- The law of the numbers of a normal form.
-use Rattle.std.specs.Prelude.{◌≡◌, true, is_some, codes}
+use Rattle.std.specs.Prelude.{◌≡◌, true, is_some, codes, length}
 use Rattle.std.specs.List.{AllByRecursion}
 use Rattle.ada_tree.specs.declared.naming.NameId.{NameId}
 use Rattle.ada_tree.specs.PlainProgram.{PProgram}
@@ -26,3 +26,7 @@ NormalHasNumbers =
     (p : PProgram) → IsOrdered p → AreOwn p p.decls → NoneIsDed p →
     all_numbers (types_in (normal_tree p (types_in p) (all_numbers (types_in p) p))) (normal_tree p (types_in p) (all_numbers (types_in p) p))
     ≡ numbers_made p (types_in p) (all_numbers (types_in p) p)
+
+-- A program with an array of two tasks is so.
+abbrev pub IsMet : Type 0
+IsMet = (p : PProgram) × IsOrdered p × AreOwn p p.decls × NoneIsDed p × (length (all_numbers (types_in p) p).tasks ≡ 3)

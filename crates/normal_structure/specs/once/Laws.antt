@@ -1,5 +1,5 @@
 -- The laws of what a program and its normal form declare and name (8.3; this project's rule).
-use Rattle.std.specs.Prelude.{◌≡◌, true, false, List, [], ◌++◌, flat_map, None}
+use Rattle.std.specs.Prelude.{◌≡◌, true, false, List, [], ◌∷◌, ◌++◌, map, flat_map, is_some, None}
 use Rattle.std.specs.List.{AllByRecursion}
 use Rattle.ada_tree.specs.TypeTable.{TypeTable}
 use Rattle.ada_tree.specs.PlainStmt.{PBody}
@@ -12,7 +12,7 @@ use Rattle.ada_static_rules.specs.RuleDuplicate.{is_among}
 use Rattle.ada_static_rules.specs.Sites.{decls_sites, body_sites, sites}
 use Rattle.ada_static_rules.specs.Refusals.{MeetsTypeRules}
 use Rattle.syn_event.specs.Numbering.{Numbering}
-use Rattle.syn_event.specs.NamedTasks.{task_names_of}
+use Rattle.syn_event.specs.NamedTasks.{NamedTasks, task_names_of}
 use Rattle.syn_event.specs.DeclaredTasks.{decl_list, tasks_in}
 use Rattle.normal_model.specs.NormalTree.{first_decls, tasks_beside, task_declared, bodies_of, main_variables, normal_tree}
 use Rattle.normal_model.specs.RewrittenUnit.{RewrittenUnit}
@@ -69,3 +69,7 @@ abbrev pub InnerIsFit : Type 0
 InnerIsFit =
     (p : PProgram) → MeetsTypeRules p →
     AllByRecursion (IsFitDecl (fixed_names (namings_of (sites p)))) (decl_list p.decls) × AllByRecursion (IsFitIn (fixed_names (namings_of (sites p)))) (body_names p.body)
+
+-- A program with an array of tasks and a single task meets the rules on types.
+abbrev pub IsMet : Type 0
+IsMet = (p : PProgram) × MeetsTypeRules p × (map (λ (x : NamedTasks). is_some x.index_range) (task_names_of p) ≡ true ∷ false ∷ [])

@@ -104,3 +104,21 @@ RangeForms =
     (p : PProgram) (types : TypeTable) (numbers : Numbering) → IsOrdered p → (s : Span) (r : PDrange) (limits : Limits) →
     EverySubind (old_names (own_name p)) 2 (range_subtype (types_in p) s r) → HasType (types_in p) r → range_of (types_in p) [] r ≡ Ok limits → is_known (types_in p) limits.kind ≡ true →
     form_of (types_in (normal_tree p types numbers)) (OPlain (range_subtype (types_in p) s r)) ≡ Some record { limits = limits; index = None }
+
+-- The program is as these laws ask: its names are such as the source can hold, and those in its declarations its own. So is a name of a scalar type or
+-- subtype, and the names in the subtype of a static range.
+pub record IsAsked (p : PProgram) (w : Word) (m : Mark) (s : Span) (r : PDrange) (limits : Limits) : Type 0 where
+  pub ordered : IsOrdered p
+  pub tokens : HasTokens p
+  pub own : AreOwn p p.decls
+  pub name : own_name p w.name.0 ≡ true
+  pub mark : mark_named (types_in p) w.name ≡ Some m
+  pub scalar : is_known (types_in p) m.kind ≡ true
+  pub names : EverySubind (old_names (own_name p)) 2 (range_subtype (types_in p) s r)
+  pub type : HasType (types_in p) r
+  pub range : range_of (types_in p) [] r ≡ Ok limits
+  pub values : is_known (types_in p) limits.kind ≡ true
+
+-- A program is so, with a name and a range.
+abbrev pub IsMet : Type 0
+IsMet = (p : PProgram) × (w : Word) × (m : Mark) × (s : Span) × (r : PDrange) × (limits : Limits) × IsAsked p w m s r limits

@@ -5,6 +5,7 @@ use Rattle.ada_tree.specs.declared.naming.NameId.{NameId}
 use Rattle.ada_tree.specs.TypeTable.{TypeTable}
 use Rattle.ada_tree.specs.PlainDecl.{decls_of}
 use Rattle.ada_tree.specs.PlainProgram.{PProgram}
+use Rattle.ada_static_rules.specs.Refusals.{types_in}
 use Rattle.syn_event.specs.declared.numbering.TaskInfo.{TaskInfo}
 use Rattle.syn_event.specs.Numbering.{Numbering, task_at}
 use Rattle.syn_event.specs.AddedNames.{task_info}
@@ -78,3 +79,11 @@ UnitsAreRewritten =
     (p : PProgram) (types : TypeTable) (numbers : Numbering) → TellUnits (setting_of p types numbers) → (t : ℕ) →
     unit_of (normal_tree p types numbers) (numbers_made p types numbers) (suc t)
     ≡ unit_made (setting_of p types numbers) (slice_get (tasks_beside (setting_of p types numbers)) t) (unit_of p numbers (suc t))
+
+-- a program with its own types and numbers
+abbrev pub own_setting : PProgram → Setting
+own_setting p = setting_of p (types_in p) (all_numbers (types_in p) p)
+
+-- A program with three tasks beside main is so, of which two have the same type.
+abbrev pub IsMet : Type 0
+IsMet = (p : PProgram) × IsOrdered p × TellUnits (own_setting p) × (length (tasks_beside (own_setting p)) ≡ 3)

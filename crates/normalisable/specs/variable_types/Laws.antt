@@ -18,8 +18,10 @@ use Rattle.legal_programs.specs.rewritten_values.Values.{old_names}
 use Rattle.normal_structure.specs.types.Own.{own_name}
 use Rattle.normal_runs.specs.floors.Suited.{SameRange, declared_limits, AreMarked}
 use Rattle.normal_runs.specs.runs.Premises.{programs_of}
+use Rattle.normal_runs.specs.forms.Choosing.{choosing}
 use Rattle.normal_runs.specs.forms.Normalisable.{numbers_of, setting_for, made_for, variables_of, normal_rewrite, IsScalar}
 use Rattle.legal_programs.specs.types.Typed.{IsSmall}
+use Rattle.legal_programs.specs.literals.Colours.{coloured}
 use Rattle.normalisable.specs.variable_types.Ready.{IsReady}
 
 -- A legal program is so, where it is well placed, has the names of every program and small enumerations, and the names in it are its own.
@@ -47,3 +49,7 @@ IntegersAgree = (p : PProgram) (s : Span) → SameRange integer_limits (declared
 -- Each variable that is added is scalar.
 abbrev pub VariablesAreScalar : Type 0
 VariablesAreScalar = (p : PProgram) → IsReady p → (t : ℕ) → AllByRecursion (IsScalar (types_in (made_for p))) (variables_of p t)
+
+-- Two programs are ready: one in which a variable chooses a member of an array of tasks, and one with an array of tasks whose index is an enumeration.
+abbrev pub IsMet : Type 0
+IsMet = IsReady choosing × IsReady coloured

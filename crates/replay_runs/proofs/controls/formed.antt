@@ -3,3 +3,4 @@ pub mod Units
 pub mod Made
 pub mod Bodies
 pub mod Static
+pub mod Order

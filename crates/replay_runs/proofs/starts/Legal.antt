@@ -43,7 +43,7 @@ use Rattle.normalisable.proofs.variable_types.Subtypes.{own_rule, entry-known, a
 use Rattle.normal_is_legal.proofs.numbers.Numbered.{none_legal_is_ded}
 use Rattle.normal_is_legal.proofs.checks.Facts as facts
 use Rattle.replay_runs.specs.starts.Laws.{HasOwnMark, HasOwnVariables, AddsOwnMarks}
-use Rattle.replay_runs.specs.starts.Legal.{LegalStarts, LegalHasFormals}
+use Rattle.replay_runs.specs.starts.Legal.{LegalIsAsked, LegalStarts, LegalHasFormals}
 use Rattle.replay_runs.proofs.starts.Bodies.{legal_has_bodies}
 use Rattle.replay_runs.proofs.starts.Programs.{texts_start}
 use Rattle.replay_runs.proofs.starts.Formals.{formals_stay}
@@ -132,6 +132,9 @@ module _ (p : PProgram) (ready : IsReady p) where
 
   pub adds-own : AddsOwnMarks g
   adds-own = record { main = unit-own 0 p.body; bodies = bodies-own (decl_list p.decls) }
+
+pub legal_is_asked : LegalIsAsked
+legal_is_asked p h = record { ordered = facts.ordered p h; own = (facts.olds p h).2; apart = none_legal_is_ded p _ _ h.legal h.placed; bodies = legal_has_bodies p h; marks = adds-own p (facts.ready p h) }
 
 pub legal_starts : LegalStarts
 legal_starts p events h = texts_start p events (facts.ordered p h) (facts.olds p h).2 (none_legal_is_ded p _ _ h.legal h.placed) (legal_has_bodies p h) (adds-own p (facts.ready p h))

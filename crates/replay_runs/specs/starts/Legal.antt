@@ -10,9 +10,11 @@ use Rattle.syn_event.specs.Numbering.{task_at}
 use Rattle.syn_event.specs.AllNumbers.{all_numbers}
 use Rattle.control_script.specs.declared.Op.{Op}
 use Rattle.run_laws.specs.replaying.Copies.{Spots}
+use Rattle.normal_structure.specs.types.Laws.{IsOrdered, AreOwn, setting_of}
+use Rattle.normal_structure.specs.numbers.Laws.{NoneIsDed}
 use Rattle.normalisable.specs.Laws.{IsLegalOriginal}
 use Rattle.replay_structure.specs.bodies.Laws.{HasBodies, RunsUnits}
-use Rattle.replay_runs.specs.starts.Laws.{IsNoPermit, FindsPermit, form_in, start_before, start_after, TextStarts}
+use Rattle.replay_runs.specs.starts.Laws.{IsNoPermit, FindsPermit, AddsOwnMarks, form_in, start_before, start_after, TextStarts}
 use Rattle.replay_runs.specs.starts.Formals.{HaveFormals}
 
 -- Each task of a legal program runs a body that is declared (9.1).
@@ -23,6 +25,17 @@ LegalHasBodies = (p : PProgram) → IsLegalOriginal p → HasBodies p (drop 1 (a
 -- that are added run theirs.
 abbrev pub LegalRuns : Type 0
 LegalRuns = (p : PProgram) (ops : List Op) → IsLegalOriginal p → RunsUnits p ops
+
+-- It is as the laws of starts ask of any program.
+pub record IsAsked (p : PProgram) : Type 0 where
+  pub ordered : IsOrdered p
+  pub own : AreOwn p p.decls
+  pub apart : NoneIsDed p
+  pub bodies : HasBodies p (drop 1 (all_numbers (types_in p) p).tasks)
+  pub marks : AddsOwnMarks (setting_of p (types_in p) (all_numbers (types_in p) p))
+
+abbrev pub LegalIsAsked : Type 0
+LegalIsAsked = (p : PProgram) → IsLegalOriginal p → IsAsked p
 
 -- The tasks of a replay text of a legal program start with the objects of the normal form and the permit's variables.
 abbrev pub LegalStarts : Type 0

@@ -1,12 +1,13 @@
 -- A program with an array of tasks meets what is asked.
 use Rattle.std.specs.Prelude.{List, drop, refl}
+use Rattle.std.specs.Fmt.{digits}
 use Rattle.ada_static_rules.specs.Refusals.{types_in}
 use Rattle.syn_event.specs.Numbering.{Numbering}
 use Rattle.syn_event.specs.AllNumbers.{all_numbers}
 use Rattle.control_script.specs.declared.Op.{Op}
 use Rattle.normal_structure.proofs.types.Examples.{original, ordered, own}
 use Rattle.normal_structure.proofs.numbers.Examples.{none_is_ded}
-use Rattle.replay_structure.specs.bodies.Laws.{HasBodies, RunsUnits}
+use Rattle.replay_structure.specs.bodies.Laws.{HasBodies, RunsUnits, IsMet}
 use Rattle.replay_structure.proofs.bodies.Programs.{programs_run}
 
 abbrev numbers : Numbering
@@ -18,3 +19,7 @@ has_bodies = (refl, (refl, tt))
 
 runs : (ops : List Op) → RunsUnits original ops
 runs ops = programs_run original ops ordered own none_is_ded has_bodies
+
+pub is_met : IsMet
+unfolding digits
+is_met = (original, record { ordered = ordered; own = own; apart = none_is_ded; bodies = has_bodies; control = refl; idle = refl }, refl)

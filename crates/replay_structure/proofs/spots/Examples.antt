@@ -11,7 +11,7 @@ use Rattle.replay_model.specs.ReplayNumbers.{numbers_replayed}
 use Rattle.run_laws.specs.replaying.Copies.{Spots, HasOwners, IsNumbered}
 use Rattle.run_laws.proofs.replaying.Twins.{numbering, numbering_numbers}
 use Rattle.normal_structure.proofs.types.Examples.{original, ordered}
-use Rattle.replay_structure.specs.spots.Laws.{AreOriginal}
+use Rattle.replay_structure.specs.spots.Laws.{AreOriginal, IsMet}
 use Rattle.replay_structure.specs.spots.Places.{counts, text_spots}
 use Rattle.replay_structure.proofs.spots.Sorted.{spots_are_numbered}
 use Rattle.replay_structure.proofs.spots.Placed.{spots_have_owners}
@@ -43,3 +43,7 @@ owners = spots_have_owners numbering form (normal_is_in_order original ordered)
 are : AreOriginal form
 unfolding digits
 are = record { original = (refl, (refl, tt)); within = (omega arith, (omega arith, tt)); doubles = (refl, (refl, tt)) }
+
+pub is_met : IsMet
+unfolding digits
+is_met = (numbering, original, _, record { numbered = numbering_numbers; order = normal_is_in_order original ordered; original = are; there = refl; first = refl }, refl)

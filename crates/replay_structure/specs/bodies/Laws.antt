@@ -1,5 +1,5 @@
 -- Which body each task of a replay text runs (9.1; this project's rule).
-use Rattle.std.specs.Prelude.{◌≡◌, ℕ, suc, ◌==◌, ◌||◌, Bool, true, false, List, [], ◌∷◌, drop, Some}
+use Rattle.std.specs.Prelude.{◌≡◌, ℕ, suc, ◌==◌, ◌||◌, Bool, true, false, List, [], ◌∷◌, length, drop, Some}
 use Rattle.std.specs.List.{AllByRecursion}
 use Rattle.ada_tree.specs.declared.naming.NameId.{NameId}
 use Rattle.ada_tree.specs.declared.naming.Span.{Span}
@@ -91,3 +91,15 @@ pub record RunsUnits (p : PProgram) (ops : List Op) : Type 0 where
 -- All this is so of a program that meets the static rules, declares own names, has a body for each task, and no array of tasks named DED.
 abbrev pub ProgramsRun : Type 0
 ProgramsRun = (p : PProgram) (ops : List Op) → IsOrdered p → AreOwn p p.decls → NoneIsDed p → HasBodies p (drop 1 (all_numbers (types_in p) p).tasks) → RunsUnits p ops
+
+-- A program with an array of tasks is so, and no body of its normal form has the name of an added task.
+pub record IsAsked (p : PProgram) : Type 0 where
+  pub ordered : IsOrdered p
+  pub own : AreOwn p p.decls
+  pub apart : NoneIsDed p
+  pub bodies : HasBodies p (drop 1 (all_numbers (types_in p) p).tasks)
+  pub control : has_body (decl_list (normal_tree p (types_in p) (all_numbers (types_in p) p)).decls) (added_id (normal_tree p (types_in p) (all_numbers (types_in p) p)) control_text) ≡ false
+  pub idle : has_body (decl_list (normal_tree p (types_in p) (all_numbers (types_in p) p)).decls) (added_id (normal_tree p (types_in p) (all_numbers (types_in p) p)) idle_text) ≡ false
+
+abbrev pub IsMet : Type 0
+IsMet = (p : PProgram) × IsAsked p × (length (all_numbers (types_in p) p).tasks ≡ 3)

@@ -102,3 +102,15 @@ abbrev pub DoublesStand : Type 0
 DoublesStand =
     (far : Spots) (g : Setting) → IsInOrder g.numbers → AreOriginal g → (i : ℕ) (x : EntryInfo) → entry_at g.numbers (suc i) ≡ Some x → position (is_named_so g x) g.numbers.entries ≡ Some i →
     (found : EntryInfo) × (entry_at (numbers_replayed g) ((text_spots far g).shadow (suc i)) ≡ Some found) × (found.stands_for ≡ Some (suc i))
+
+-- Entries of a program in order are as these laws ask: those far away have numbers of their own, and the first entry is the first of its task and text.
+pub record AreAsked (far : Spots) (g : Setting) (x : EntryInfo) : Type 0 where
+  pub numbered : IsNumbered far
+  pub order : IsInOrder g.numbers
+  pub original : AreOriginal g
+  pub there : entry_at g.numbers 1 ≡ Some x
+  pub first : position (is_named_so g x) g.numbers.entries ≡ Some 0
+
+-- The normal form of a program with two entries is so.
+abbrev pub IsMet : Type 0
+IsMet = (far : Spots) × (p : PProgram) × (x : EntryInfo) × AreAsked far (normal_setting p (types_in p) (all_numbers (types_in p) p)) x × (length (all_numbers (types_in p) p).entries ≡ 2)

@@ -18,6 +18,7 @@ use Rattle.legal_programs.specs.rewritten_values.Values.{old_names}
 use Rattle.normal_structure.specs.types.Own.{own_name}
 use Rattle.normal_structure.specs.types.Laws.{IsOrdered, AreOwn}
 use Rattle.normal_structure.specs.numbers.Laws.{NoneIsDed}
+use Rattle.normalisable.specs.Laws.{IsLegalOriginal}
 
 -- ---- types
 
@@ -45,3 +46,13 @@ ReplayNumbered =
     (p : PProgram) (events : List Event) → IsOrdered p → own_name p p.name.name.0 ≡ true → AreOwn p p.decls → NoneIsDed p →
     all_numbers (types_in (replay_tree p (types_in p) (all_numbers (types_in p) p) events)) (replay_tree p (types_in p) (all_numbers (types_in p) p) events)
     ≡ replay_numbers p (types_in p) (all_numbers (types_in p) p)
+
+-- Each legal original is as these laws ask.
+pub record IsAsked (p : PProgram) : Type 0 where
+  pub ordered : IsOrdered p
+  pub name : own_name p p.name.name.0 ≡ true
+  pub own : AreOwn p p.decls
+  pub apart : NoneIsDed p
+
+abbrev pub LegalIsAsked : Type 0
+LegalIsAsked = (p : PProgram) → IsLegalOriginal p → IsAsked p

@@ -4,6 +4,7 @@ use Rattle.legal_programs.proofs.alike_scopes.Exprs.{exprs_are_same, dranges_are
 use Rattle.legal_programs.proofs.alike_scopes.Selectors.{selectors_are_same, targets_are_same}
 use Rattle.legal_programs.proofs.alike_scopes.Inner.{inside_is_alike, formals_are_alike, loop_is_alike, objects_are_alike}
 use Rattle.legal_programs.proofs.alike_scopes.Calls.{tasks_refuse_same, calls_refuse_same, called_is_same, fewer_are_alike}
+use Rattle.legal_programs.proofs.alike_scopes.Examples.{is_met}
 use Rattle.legal_programs.proofs.alike_scopes.laws.Goals as goal
 
 pub returns : goal.returns
@@ -22,4 +23,5 @@ returns c = record {
   formals = formals_are_alike;
   loops = loop_is_alike;
   objects = objects_are_alike;
+  met = is_met;
 }

@@ -3,6 +3,7 @@ use Rattle.legal_programs.proofs.rewritten_values.Named.{literals_are_named}
 use Rattle.legal_programs.proofs.rewritten_values.Evaluating.{evaluated_alike}
 use Rattle.legal_programs.proofs.rewritten_values.Objects.{forms_alike, objects_alike, marked_has_form}
 use Rattle.legal_programs.proofs.rewritten_values.Staying.{objects_stay}
+use Rattle.legal_programs.proofs.rewritten_values.FirstDeclarations.{is_met}
 use Rattle.legal_programs.proofs.rewritten_values.laws.Goals as goal
 
 pub returns : goal.returns
@@ -14,4 +15,5 @@ returns c = record {
   objects = objects_alike;
   stay = objects_stay;
   marked = marked_has_form;
+  met = is_met;
 }

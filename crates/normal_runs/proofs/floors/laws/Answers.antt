@@ -1,4 +1,5 @@
 use Rattle.normal_runs.proofs.floors.Carried.{normal_translates, normal_steps, normal_starts, normal_raises, normal_opens, normal_ends, normal_enters, normal_preludes}
+use Rattle.normal_runs.proofs.floors.Instances.{forms_are_asked}
 use Rattle.normal_runs.proofs.floors.laws.Goals as goal
 
 pub returns : goal.returns
@@ -11,4 +12,5 @@ returns c = record {
   ends = normal_ends;
   enters = normal_enters;
   preludes = normal_preludes;
+  met = forms_are_asked;
 }

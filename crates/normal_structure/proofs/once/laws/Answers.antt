@@ -1,10 +1,11 @@
-use Rattle.std.proofs.Common.{sym, ◌∙◌}
+use Rattle.std.proofs.Common.{refl, sym, ◌∙◌}
 use Rattle.normal_model.specs.NormalStmts.{normal_body}
 use Rattle.normal_structure.proofs.once.Places.{body-is}
 use Rattle.normal_structure.proofs.once.Rewritten.{body-same}
 use Rattle.normal_structure.proofs.once.Rules.{once-fit, fit-once, program-fit}
 use Rattle.normal_structure.proofs.once.Fits.{inner_is_fit, task_names_are_fixed, first_is_fit}
 use Rattle.normal_structure.proofs.once.Whole.{normal_declares}
+use Rattle.normal_structure.proofs.units.Examples.{original}
 use Rattle.normal_structure.proofs.once.laws.Goals as goal
 
 pub returns : goal.returns
@@ -16,4 +17,5 @@ returns c = record {
   names = λ u b s t. body-is t (normal_body u b) ∙ body-same u b ∙ sym (body-is s b);
   first = first_is_fit;
   declares = normal_declares;
+  met = (original, refl, refl);
 }

@@ -2,6 +2,7 @@ use Rattle.normal_structure.proofs.types.Names.{added_names_are_new}
 use Rattle.normal_structure.proofs.types.Fronts.{first_decls_are_front}
 use Rattle.normal_structure.proofs.types.Normal.{normal_is_rooted, normal_agrees, normal_values, main_objects, body_objects, variable_is_object}
 use Rattle.normal_structure.proofs.types.RangeForms.{range_forms}
+use Rattle.normal_structure.proofs.types.Instance.{is_met}
 use Rattle.normal_structure.proofs.types.laws.Goals as goal
 
 pub returns : goal.returns
@@ -15,4 +16,5 @@ returns c = record {
   bodies = body_objects;
   variables = variable_is_object;
   ranges = range_forms;
+  met = is_met;
 }

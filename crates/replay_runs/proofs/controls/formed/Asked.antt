@@ -1,10 +1,11 @@
 -- What is known of calls, accepts and waits of a legal program, of which its normal form makes formed ones: the entries that are named are in the
 -- numbers, and an index that stays has a value.
-use Rattle.std.proofs.Common.{◌≡◌, ℕ, ℤ, suc, ◌+◌, ◌≤◌, Bool, true, false, if◌then◌else◌, List, [], ◌∷◌, length, slice_get, option_map, unwrap_or, Option, Some, None, Ok, Err, IfSome, refl, sym, ap, subst, ◌∙◌, arith}
+use Rattle.std.proofs.Common.{◌≡◌, ℕ, ℤ, suc, ◌+◌, ◌≤◌, Bool, true, false, if◌then◌else◌, List, [], ◌∷◌, length, slice_get, option_map, unwrap_or, Option, Some, None, Ok, Err, IfSome, refl, sym, ap, subst, ◌∙◌, arith, true≢false}
 use Rattle.std.specs.List.{AllByRecursion}
 use Rattle.std.proofs.lemmas.Option.{none-some}
 use Rattle.common_lemmas.proofs.Lists.{all_front, all_back, all_joined, all_weaker}
 use Rattle.ada_tree.specs.declared.naming.NameId.{NameId}
+use Rattle.ada_tree.specs.declared.naming.Span.{Span}
 use Rattle.ada_tree.specs.declared.naming.Word.{Word}
 use Rattle.ada_tree.specs.TypeTable.{TypeTable}
 use Rattle.ada_tree.specs.Every.{EveryExpr, EveryCallee, EveryCall, EveryHead, alts_count}
@@ -45,7 +46,7 @@ use Rattle.task_laws.specs.translation.Translations.{Programs}
 use Rattle.task_laws.specs.translation.OldNames.{OldExpr}
 use Rattle.legal_programs.specs.asked.Asked.{Asks, AskedBody}
 use Rattle.legal_programs.specs.asked.Kinds.{no_asks, place_asks, type_asks, check_asks, both}
-use Rattle.normal_model.specs.Making.{moving}
+use Rattle.normal_model.specs.Making.{moving, variable}
 use Rattle.normal_model.specs.Calls.{first_named}
 use Rattle.normal_model.specs.NormalTree.{tasks_beside}
 use Rattle.normal_runs.specs.floors.Suited.{IsCallee, IsCall, IsHead}
@@ -69,6 +70,7 @@ use Rattle.normalisable.proofs.body_forms.Fields as fields
 use Rattle.normal_is_legal.proofs.asked.Steps.{Steps, steps_asked}
 use Rattle.normal_is_legal.proofs.asked.Tasks as tasks
 use Rattle.replay_structure.specs.typed.ScopeOf.{has_accept}
+use Rattle.normal_structure.proofs.types.Names.{added_names_are_new}
 use Rattle.replay_structure.proofs.scopes.Waits.{wait-accepts}
 
 module _ (p : PProgram) (h : IsLegalOriginal p) where
@@ -244,12 +246,17 @@ module _ (p : PProgram) (h : IsLegalOriginal p) where
 
   -- ---- statements
 
+  -- the expression is no variable that the normal form adds
+  abbrev pub IsNoAdded : PExpr → Type 0
+  IsNoAdded e = (s : Span) (j : ℕ) → e ≡ variable G s j → ⊥
+
   -- What is asked of the statements of a unit of the program, which is rewritten by the number of one task and run by the task of another number.
   abbrev pub unit_asks : ℕ → ℕ → Asks (Unit {0})
   unit_asks first number = record no_asks {
     callee = λ c k x. AreTasksOf G x;
     call = λ c k x. IsCallKnown x;
     aborts = λ c k xs. 1 ≤ length xs;
+    condition = λ c k e. IsNoAdded e;
     head = λ c k i. IsHeadKnown first number i;
     wait = λ c k x others s. (has_accept x ≡ true) × (alts_count x ≤ 32);
   }
@@ -277,6 +284,12 @@ module _ (p : PProgram) (h : IsLegalOriginal p) where
         call-known who c.0.1 c.1 k x rel.0 rel.1 m.0.0.0 (m.0.0.1, i.0.0.1.0, i.0.0.1.1)
         (all_joined IsMet (callee_sites c.0.1 x.task) (behind_callee c.0.1 x) (met (callee_sites c.0.1 x.task) m.0.1) (met (behind_callee c.0.1 x) i.0.1)) m.1
 
+    -- the names in a condition are the program's own
+    own-is-none : (k : ℕ) (e : PExpr) → EveryExpr (text_rules b.is_old) k e → IsNoAdded e
+    own-is-none k e m s j q =
+        let own : EveryExpr (text_rules b.is_old) k (variable G s j) = subst (EveryExpr (text_rules b.is_old) k) q m in
+        true≢false (sym own.1 ∙ added_names_are_new G j)
+
     steps : Steps known (unit_asks first number) (R who)
     steps = record {
       outer = λ c d k s rel m. tt;
@@ -287,7 +300,7 @@ module _ (p : PProgram) (h : IsLegalOriginal p) where
       call = λ c d k x rel m i. call-of c k x rel m i;
       aborts = λ c d k xs rel m i. m.0.0.0;
       aborted = λ c d k xs rel m i. all-tasks c k xs rel i;
-      condition = λ c d k e rel m. tt;
+      condition = λ c d k e rel m. own-is-none k e m.0.0.1;
       selector = λ c d k e xs others s rel m. tt;
       choices = λ c d k e xs rel m. tt;
       loop = λ c d k w x rel m. tt;

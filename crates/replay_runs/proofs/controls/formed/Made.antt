@@ -1,5 +1,6 @@
 -- The statements that a normal form makes of those of a legal program are formed.
-use Rattle.std.proofs.Common.{◌≡◌, ℕ, suc, ◌+◌, ◌-◌, ◌≤◌, ◌<◌, ◌==◌, ◌&&◌, Bool, true, false, if◌then◌else◌, is_some, List, [], ◌∷◌, length, slice_get, unwrap_or, Option, Some, None, Result, refl, sym, ap, ap₂, subst, ◌∙◌, true≢false, arith}
+use Rattle.std.proofs.Common.{◌≡◌, ℕ, suc, ◌+◌, ◌-◌, ◌≤◌, ◌<◌, ◌==◌, ◌&&◌, Bool, true, false, if◌then◌else◌, is_some, List, [], ◌∷◌, length, slice_get, unwrap_or, Option, Some, None, Result, refl, sym, ap, ap₂, subst, ◌∙◌, true≢false, arith, option_map, inl, inr}
+use Rattle.std.specs.Prelude.{fold, ◌⊎◌, IfSome}
 use Rattle.std.specs.List.{AllByRecursion}
 use Rattle.std.proofs.lemmas.Option.{none-some, slice_get_within}
 use Rattle.ada_tree.specs.declared.naming.NameId.{NameId}
@@ -8,7 +9,7 @@ use Rattle.ada_tree.specs.declared.naming.Word.{Word}
 use Rattle.ada_tree.specs.Attributes.{attribute_of, is_bound}
 use Rattle.ada_tree.specs.TypeTable.{TypeTable}
 use Rattle.ada_tree.specs.Every.{alts_count}
-use Rattle.ada_tree.specs.PlainExpr.{PExpr}
+use Rattle.ada_tree.specs.PlainExpr.{PExpr, EBinary}
 use Rattle.ada_tree.specs.PlainStmt.{PCallee, PArgs, PCall, PHead, PStmt, SNull, SAssign, SDelay, SExit, SRaise, SAbort, SCall, SAccept, SWait, SConditional, STimed, SPut, SPutLine, SNewLine, SGet, SIf, SCase, SBlock, SLoop, accepting, PAlts, no_alt, alt_then, alternative, AAccept, ADelay, ATerminate}
 use Rattle.ada_tree.specs.PlainDecl.{PDecl}
 use Rattle.ada_tree.specs.PlainProgram.{PProgram}
@@ -29,13 +30,13 @@ use Rattle.task_laws.proofs.translation.Results.{Both, both_ok, both_err}
 use Rattle.task_laws.proofs.translation.Evaluating.{KnownValue, known_value, value-alike}
 use Rattle.legal_programs.specs.asked.Asked.{Asks, AskedStmt, AskedAlts}
 use Rattle.legal_programs.specs.asked.Kinds.{no_asks}
-use Rattle.normal_model.specs.Making.{moving, index_left, kept_subtypes, kept_if}
-use Rattle.normal_model.specs.Ranges.{subtype_of_range, family_range}
+use Rattle.normal_model.specs.Making.{moving, index_left, kept_subtypes, kept_if, variable}
+use Rattle.normal_model.specs.Ranges.{subtype_of_range, family_range, marked}
 use Rattle.normal_model.specs.Members.{callee_kept}
-use Rattle.normal_model.specs.Calls.{entry_called, lists_called, args_passed, lists_passed, call_to, call_subtypes, index_number}
+use Rattle.normal_model.specs.Calls.{entry_called, lists_called, args_passed, lists_passed, call_to, call_subtypes, index_number, Slot, slots_called, actual_number, actuals_passed, actual_subtypes}
 use Rattle.normal_model.specs.RewrittenUnit.{RewrittenUnit}
 use Rattle.normal_model.specs.NormalTree.{tasks_beside}
-use Rattle.normal_model.specs.Waits.{head_left}
+use Rattle.normal_model.specs.Waits.{head_left, not_held}
 use Rattle.normal_model.specs.Walk.{inside_alts}
 use Rattle.normal_model.specs.NormalStmts.{normal_rewriter, normal_body, unit_variables}
 use Rattle.normal_model.proofs.VariablesLemmas.{Begins}
@@ -45,8 +46,8 @@ use Rattle.normal_runs.specs.floors.Suited.{HasLists, no_lists, plain_lists, fam
 use Rattle.normal_runs.specs.runs.Premises.{Rewrite, programs_of, unit_at, unit_before}
 use Rattle.normal_runs.specs.forms.Normalisable.{numbers_of, setting_for, made_for, variables_of, first_task, normal_rewrite}
 use Rattle.replay_is_legal.proofs.fits.Counted.{tasks-within, entries-within}
-use Rattle.normal_structure.specs.asked.Pieces.{IsVariable, AreVariables, IsTarget, Pieces}
-use Rattle.normal_structure.proofs.asked.CallVariables.{family-there}
+use Rattle.normal_structure.specs.asked.Pieces.{IsVariable, AreVariables, IsTarget, Pieces, IsGuard}
+use Rattle.normal_structure.proofs.asked.CallVariables.{family-there, actuals-there}
 use Rattle.normal_structure.proofs.asked.Walk.{body-keeps}
 use Rattle.normal_structure.specs.typed.ScopeOf.{AreTasksOf}
 use Rattle.normalisable.specs.Laws.{IsLegalOriginal}
@@ -57,9 +58,20 @@ use Rattle.replay_structure.specs.typed.ScopeOf.{has_accept}
 use Rattle.replay_is_legal.proofs.names.form_units.Entries.{place-of, named-number}
 use Rattle.replay_runs.specs.starts.Laws.{form_in}
 use Rattle.replay_runs.specs.controls.permits.Laws.{FitsInteger}
-use Rattle.replay_runs.specs.controls.formed.Laws.{NamesTask, NamesEntry, IsIndex, no_index, variable_index, static_index, IsCallFormed, IsHeadFormed, AreHeadsFormed, AbortsOne, IsFormed}
-use Rattle.replay_runs.proofs.controls.formed.Asked.{IsCallKnown, IsStaticIndex, IsHeadKnown, unit_asks}
+use Rattle.replay_runs.specs.controls.formed.Laws.{NamesTask, NamesEntry, IsIndex, no_index, variable_index, static_index, IsCallFormed, IsHeadFormed, AreHeadsFormed, AbortsOne, IsFormed, IsAddedVariable, AreGuardsFormed}
+use Rattle.replay_runs.proofs.controls.formed.Asked.{IsCallKnown, IsStaticIndex, IsHeadKnown, unit_asks, IsNoAdded}
+use Rattle.ada_tree.specs.declared.expressions.BinaryOp.TheVariants.{And}
 use Rattle.replay_runs.proofs.controls.formed.Units.{units-asked}
+
+-- ---- guards
+
+-- an expression is a variable of the normal form
+abbrev IsVarying : Setting → PExpr → Type 0
+IsVarying g e = (s : Span) × (k : ℕ) × (e ≡ variable g s k)
+
+abbrev AreGuardsVariables : Setting → PAlts → Type 0
+AreGuardsVariables g no_alt = Unit {0}
+AreGuardsVariables g (alt_then (alternative guard what s) rest) = IfSome guard (IsVarying g) × AreGuardsVariables g rest
 
 -- ---- numbers
 
@@ -177,12 +189,44 @@ module _ (p : PProgram) (h : IsLegalOriginal p) where
         (subst (λ c. IsIndex p t e (lists_in true (lists_passed c G s x j args)).index) (sym called)
         (variable_index s k (family-variable y (ap (λ o. (lists_of (numbers_of p) (entry_called G x) o).index) q ∙ ap (λ c. (lists_in c args).index) called))))
 
+    -- an actual is a variable of its formal's mark
+    passed : (slots : List Slot) (es : List PExpr) (n : ℕ) → AreVariables G (variables_of p t) s (actual_subtypes slots es) n → AllByRecursion (IsAddedVariable p t) (actuals_passed G s slots es n)
+    passed [] es n q = tt
+    passed (y ∷ ys) [] n q = tt
+    passed (y ∷ ys) (d ∷ es) n q = ((s, n, marked y.mark, refl, q.0), passed ys es (n + 1) q.1)
+
+    abbrev all_passed : List PExpr → Type 0
+    all_passed es = (lists_called G x).actuals ≡ es → AllByRecursion (IsAddedVariable p t) (actuals_passed G s (slots_called G x) es (actual_number G s x j))
+
+    actual-variables : (es : List PExpr) → all_passed es
+    actual-variables es q = passed (slots_called G x) es (actual_number G s x j) (subst (λ l. AreVariables G (variables_of p t) s (actual_subtypes (slots_called G x) l) (actual_number G s x j)) q (actuals-there G (variables_of p t) s x j v))
+
+    second-passed : (second : Option (List PExpr)) → (lists_called G x).actuals ≡ unwrap_or second [] →
+        AllByRecursion (IsAddedVariable p t) (unwrap_or (option_map (λ es. actuals_passed G s (slots_called G x) es (actual_number G s x j)) second) [])
+    second-passed None q = tt
+    second-passed (Some es) q = actual-variables es q
+
+    -- the actuals of the new call are variables
+    actuals-passed : (fam : Bool) (args : Option PArgs) (index : Option PExpr) (actuals : List PExpr) → HasLists fam args index actuals → is_family (numbers_of p) (entry_called G x) ≡ fam → is_family (numbers_of p) e ≡ fam → x.args ≡ args →
+        AllByRecursion (IsAddedVariable p t) (lists_of (numbers_of p) e (args_passed G s x j args)).actuals
+    actuals-passed _ _ _ _ no_lists called is q = tt
+    actuals-passed _ _ _ _ (plain_lists args) called is q =
+        subst (λ c. AllByRecursion (IsAddedVariable p t) (lists_in c (lists_passed (is_family (numbers_of p) (entry_called G x)) G s x j args)).actuals) (sym is)
+        (subst (λ c. AllByRecursion (IsAddedVariable p t) (lists_in false (lists_passed c G s x j args)).actuals) (sym called)
+        (actual-variables args.first (ap (λ o. (lists_of (numbers_of p) (entry_called G x) o).actuals) q ∙ ap (λ c. (lists_in c args).actuals) called)))
+    actuals-passed _ _ _ _ (family_lists y second) called is q =
+        let args : PArgs = record { first = y ∷ []; second = second } in
+        subst (λ c. AllByRecursion (IsAddedVariable p t) (lists_in c (lists_passed (is_family (numbers_of p) (entry_called G x)) G s x j args)).actuals) (sym is)
+        (subst (λ c. AllByRecursion (IsAddedVariable p t) (lists_in true (lists_passed c G s x j args)).actuals) (sym called)
+        (second-passed second (ap (λ o. (lists_of (numbers_of p) (entry_called G x) o).actuals) q ∙ ap (λ c. (lists_in c args).actuals) called)))
+
     call-formed : IsCallFormed p t (call_to G s x j w)
     unfolding entry-named
     call-formed = record {
       callee = callee;
       entry = entry-named callee.task x.entry.name has;
       index = index-passed (is_family (numbers_of p) (entry_called G x)) x.args i.call.index i.call.actuals i.call.lists refl (has.is_family ∙ sym i.first.is_family) refl;
+      actuals = actuals-passed (is_family (numbers_of p) (entry_called G x)) x.args i.call.index i.call.actuals i.call.lists refl (has.is_family ∙ sym i.first.is_family) refl;
     }
 
   -- ---- accepts
@@ -210,12 +254,23 @@ module _ (p : PProgram) (h : IsLegalOriginal p) where
 
   -- ---- waits
 
+  -- no test is a variable but one that the unit has
+  none-held : (s : Span) (es : List PExpr) (e : PExpr) → IsNoAdded p h e → IsNoAdded p h (fold (λ test g. EBinary And test (not_held s g) s) e es)
+  none-held s [] e m = m
+  none-held s (g ∷ es) e m = none-held s es (EBinary And e (not_held s g) s) (λ z j q. cc)
+
   module _ (u : RewrittenUnit) where
     accepts-kept : (x : PAlts) (vars : List PDecl) → has_accept (inside_alts (normal_rewriter u) x vars) ≡ has_accept x
     accepts-kept no_alt vars = refl
     accepts-kept (alt_then (alternative g (AAccept a l) s) rest) vars = refl
     accepts-kept (alt_then (alternative g (ADelay d l) s) rest) vars = accepts-kept rest _
     accepts-kept (alt_then (alternative g ATerminate s) rest) vars = accepts-kept rest _
+
+    -- each guard is a variable
+    guards-vary : (x : PAlts) (vars : List PDecl) → AreGuardsVariables u.setting (inside_alts (normal_rewriter u) x vars)
+    guards-vary no_alt vars = tt
+    guards-vary (alt_then (alternative None k s) rest) vars = (tt, guards-vary rest _)
+    guards-vary (alt_then (alternative (Some e) k s) rest) vars = ((s, length vars, refl), guards-vary rest _)
 
     alternatives-kept : (x : PAlts) (vars : List PDecl) → alts_count (inside_alts (normal_rewriter u) x vars) ≡ alts_count x
     alternatives-kept no_alt vars = refl
@@ -231,7 +286,8 @@ module _ (p : PProgram) (h : IsLegalOriginal p) where
       call = λ c k x. IsCallFormed p t x;
       aborts = λ c k xs. length xs ≡ 1;
       head = λ c k x. IsHeadFormed p t x;
-      wait = λ c k x others s. (has_accept x ≡ true) × FitsInteger (alts_count x);
+      condition = λ c k e. IsGuard G (variables_of p t) e ⊎ IsNoAdded p h e;
+      wait = λ c k x others s. (has_accept x ≡ true) × FitsInteger (alts_count x) × AreGuardsVariables G x;
     }
 
     abbrev u : RewrittenUnit
@@ -244,7 +300,7 @@ module _ (p : PProgram) (h : IsLegalOriginal p) where
       some = λ n. tt;
       duration = λ n m. tt;
       plain = λ c d k x i rel m. tt;
-      condition = λ c d k e rel m. tt;
+      condition = λ c d k e rel m. inr m;
       selector = λ c d k e xs others s rel m. tt;
       choices = λ c d k e xs rel m. tt;
       loop = λ c d k w x rel m. tt;
@@ -264,7 +320,7 @@ module _ (p : PProgram) (h : IsLegalOriginal p) where
       actual_before = λ c d k n s x slot e j rel m i pair f v le. tt;
       actual_behind = λ c d k n s x slot e id j rel m i pair f q v le. tt;
       flag = λ c d k n s part j rel m small v le. tt;
-      flag_test = λ c d k n s j rel m v le. tt;
+      flag_test = λ c d k n s j rel m v le. inr (λ z i q. cc);
       aborted = λ c d k n xs w rel m le. refl;
       no_abort = λ c d k rel m. absurd (let few : 1 ≤ 0 = m in omega (arith, few));
       head = λ c d k x rel i f. head-stays t x i f;
@@ -272,11 +328,12 @@ module _ (p : PProgram) (h : IsLegalOriginal p) where
       accept_index = λ c d k n s x e j rel i f v le. tt;
       accepting = λ c d k s x j rel i. tt;
       guard = λ c d k n s e j rel m v le. tt;
-      guard_test = λ c d k n s j rel m v le. tt;
-      closed = λ c d k n x others s e es rel m w all few le. tt;
+      guard_test = λ c d k n s j rel m v le. inl (s, j, refl, v);
+      closed = λ c d k n x others s e es rel m w all few le. inr (none-held s es (not_held s e) (λ z i q. cc));
       wait = λ c d k x others s l rel m alts. (
         accepts-kept u x l ∙ m.0,
         let few : alts_count x ≤ 32 = m.1 in let same = alternatives-kept u x l in omega (arith, few, same),
+        guards-vary u x l,
       );
     }
 
@@ -293,6 +350,15 @@ module _ (p : PProgram) (h : IsLegalOriginal p) where
     heads-formed (alt_then (alternative g (ADelay d l) s) rest) c k m = heads-formed rest c k m.3
     heads-formed (alt_then (alternative g ATerminate s) rest) c k m = heads-formed rest c k m.3
 
+    guard-formed : (o : Option PExpr) → IfSome o (λ e. IsGuard G (variables_of p t) e ⊎ IsNoAdded p h e) → IfSome o (IsVarying G) → IfSome o (IsGuard G (variables_of p t))
+    guard-formed None m w = tt
+    guard-formed (Some e) (inl is) w = is
+    guard-formed (Some e) (inr none) w = absurd (none w.0 w.1 w.2)
+
+    guards-formed : (x : PAlts) (c : Unit {0}) (k : ℕ) → AskedAlts formed_asks c k x → AreGuardsVariables G x → AreGuardsFormed p t x
+    guards-formed no_alt c k m w = tt
+    guards-formed (alt_then (alternative g y s) rest) c k m w = (guard-formed g m.1 w.0, guards-formed rest c k m.3 w.1)
+
     -- main has no wait with an accept
     beside-main : (x : PAlts) → has_accept x ≡ true → AreHeadsFormed p t x → 1 ≤ t
     beside-main no_alt e m = absurd (true≢false (sym e))
@@ -306,7 +372,7 @@ module _ (p : PProgram) (h : IsLegalOriginal p) where
     each-formed (SConditional x l o s) c k loops m = m.3
     each-formed (STimed x l d o s) c k loops m = m.3
     each-formed (SAccept (accepting i o) s) c k loops m = m.0
-    each-formed (SWait x o s) c k loops m = let heads = heads-formed x c (k + 1) m.3 in record { beside = beside-main x m.2.0 heads; accepts = m.2.0; heads = heads; few = m.2.1 }
+    each-formed (SWait x o s) c k loops m = let heads = heads-formed x c (k + 1) m.3 in record { beside = beside-main x m.2.0 heads; accepts = m.2.0; heads = heads; guards = guards-formed x c (k + 1) m.3 m.2.2; few = m.2.1 }
     each-formed (SNull s) c k loops m = tt
     each-formed (SAssign y e s) c k loops m = tt
     each-formed (SDelay d s) c k loops m = tt

@@ -3,7 +3,7 @@ use Rattle.replay_runs.proofs.starts.Tables.{integer_is_there}
 use Rattle.replay_runs.proofs.starts.Programs.{texts_start}
 use Rattle.replay_runs.proofs.starts.Formals.{formals_stay}
 use Rattle.replay_runs.proofs.starts.Bodies.{legal_has_bodies, legal_runs}
-use Rattle.replay_runs.proofs.starts.Legal.{legal_starts, legal_has_formals}
+use Rattle.replay_runs.proofs.starts.Legal.{legal_is_asked, legal_starts, legal_has_formals}
 use Rattle.replay_runs.proofs.starts.Permits.{legal_finds_permits}
 use Rattle.replay_runs.proofs.starts.laws.Goals as goal
 
@@ -20,4 +20,5 @@ returns c = record {
   legal_texts = legal_starts;
   legal_permits = legal_finds_permits;
   legal_formals = legal_has_formals;
+  met = legal_is_asked;
 }

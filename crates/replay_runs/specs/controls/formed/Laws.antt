@@ -1,12 +1,13 @@
 -- How the statements of a normal form are formed (4.9, 9.1, 9.5, 9.7, 9.10; this project's rule). What a call, an accept and an abort statement name
 -- is found by name in the numbers, and these numbers are ones of INTEGER. So the replay text, which finds by the same names, finds what stands for
 -- it.
-use Rattle.std.specs.Prelude.{◌≡◌, ℕ, ℤ, ◌≤◌, true, List, [], ◌∷◌, Option, Some, None, Ok}
+use Rattle.std.specs.Prelude.{◌≡◌, ℕ, ℤ, ◌≤◌, true, List, [], ◌∷◌, Option, Some, None, IfSome, Ok}
+use Rattle.std.specs.List.{AllByRecursion}
 use Rattle.event_machine.specs.declared.Event.{Event}
 use Rattle.ada_tree.specs.declared.naming.NameId.{NameId}
 use Rattle.ada_tree.specs.declared.naming.Span.{Span}
 use Rattle.ada_tree.specs.Every.{alts_count}
-use Rattle.ada_tree.specs.PlainExpr.{PExpr}
+use Rattle.ada_tree.specs.PlainExpr.{PExpr, PSubind}
 use Rattle.ada_tree.specs.PlainStmt.{PCallee, PCall, PHead, PStmt, SAbort, SCall, SAccept, SWait, SConditional, STimed, alternative, AAccept, ADelay, ATerminate, PAlts, no_alt, alt_then}
 use Rattle.ada_tree.specs.PlainProgram.{PProgram}
 use Rattle.ada_static_rules.specs.Refusals.{types_in}
@@ -27,7 +28,7 @@ use Rattle.normal_model.specs.Making.{variable}
 use Rattle.normal_model.specs.Ranges.{subtype_of_range, family_range}
 use Rattle.normal_model.specs.Waits.{head_of}
 use Rattle.normal_runs.specs.forms.Normalisable.{setting_for, variables_of}
-use Rattle.normal_structure.specs.asked.Pieces.{IsVariable}
+use Rattle.normal_structure.specs.asked.Pieces.{IsVariable, IsGuard}
 use Rattle.normalisable.specs.Laws.{IsLegalOriginal}
 use Rattle.normalisable.specs.statements.Laws.{IsSimpleName}
 use Rattle.replay_structure.specs.typed.ScopeOf.{has_accept}
@@ -61,13 +62,20 @@ pub data IsIndex (p : PProgram) (t e : ℕ) : Option PExpr → Type 0 where
   static_index : (x : PExpr) (v : Value) → is_static (form_setting p).types x ≡ true → evaluated (form_setting p).types [] x ≡ Ok v →
       lies_in (family_limits (entry_at (form_in p).numbers e)) (position_of v) ≡ true → is_integer_value (position_of v) ≡ true → IsIndex p t e (Some x)
 
+-- ---- actuals and guards
+
+-- The expression is a variable that the normal form adds to the unit of the task t (3.2.1).
+abbrev pub IsAddedVariable : PProgram → ℕ → PExpr → Type 0
+IsAddedVariable p t e = (s : Span) × (k : ℕ) × (x : PSubind) × (e ≡ variable (setting_for p) s k) × IsVariable (setting_for p) (variables_of p t) s x k
+
 -- ---- calls, accepts, waits and aborts
 
--- A call in the unit of the task t: the task that it names has the entry that it names (9.5).
+-- A call in the unit of the task t: the task that it names has the entry that it names, and its actuals are added variables (9.5).
 pub record IsCallFormed (p : PProgram) (t : ℕ) (c : PCall) : Type 0 where
   pub callee : NamesTask p c.task
   pub entry : NamesEntry p callee.task c.entry.name
   pub index : IsIndex p t entry.entry (lists_of (form_in p).numbers entry.entry c.args).index
+  pub actuals : AllByRecursion (IsAddedVariable p t) (lists_of (form_in p).numbers entry.entry c.args).actuals
 
 -- An accept in the unit of the task t: it is no accept of main, and the entry is the task's own (9.5).
 pub record IsHeadFormed (p : PProgram) (t : ℕ) (h : PHead) : Type 0 where
@@ -82,12 +90,18 @@ AreHeadsFormed p t (alt_then (alternative guard (AAccept accept stmts) s) rest) 
 AreHeadsFormed p t (alt_then (alternative guard (ADelay duration stmts) s) rest) = AreHeadsFormed p t rest
 AreHeadsFormed p t (alt_then (alternative guard ATerminate s) rest) = AreHeadsFormed p t rest
 
--- A selective wait in the unit of the task t: it is no wait of main, it has an accept alternative, and so few alternatives that INTEGER has the
--- number of each delay (9.7.1).
+-- a guard is an added variable of BOOLEAN (9.7.1)
+abbrev pub AreGuardsFormed : PProgram → ℕ → PAlts → Type 0
+AreGuardsFormed p t no_alt = Unit {0}
+AreGuardsFormed p t (alt_then (alternative guard what s) rest) = IfSome guard (IsGuard (setting_for p) (variables_of p t)) × AreGuardsFormed p t rest
+
+-- A selective wait in the unit of the task t: it is no wait of main, it has an accept alternative, its guards are added variables, and it has so few
+-- alternatives that INTEGER has the number of each delay (9.7.1).
 pub record IsWaitFormed (p : PProgram) (t : ℕ) (alts : PAlts) : Type 0 where
   pub beside : 1 ≤ t
   pub accepts : has_accept alts ≡ true
   pub heads : AreHeadsFormed p t alts
+  pub guards : AreGuardsFormed p t alts
   pub few : FitsInteger (alts_count alts)
 
 -- An abort statement names one task (9.10).

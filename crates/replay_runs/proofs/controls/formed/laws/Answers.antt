@@ -1,6 +1,7 @@
 use Rattle.replay_runs.proofs.controls.formed.Bodies.{legal_bodies_are_formed, legal_tasks_are_formed, formed_stays}
+use Rattle.replay_runs.proofs.controls.formed.Order.{legal_normal_forms}
 use Rattle.replay_runs.proofs.controls.formed.Static.{legal_static_indices_stay}
 use Rattle.replay_runs.proofs.controls.formed.laws.Goals as goal
 
 pub returns : goal.returns
-returns c = record { bodies = legal_bodies_are_formed; starts = legal_tasks_are_formed; stays = formed_stays; indices = legal_static_indices_stay }
+returns c = record { bodies = legal_bodies_are_formed; starts = legal_tasks_are_formed; stays = formed_stays; indices = legal_static_indices_stay; normal = legal_normal_forms }
