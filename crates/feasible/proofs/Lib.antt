@@ -5,4 +5,5 @@ pub mod Judging
 pub mod Continuing
 pub mod Starting
 pub mod Seeing
+pub mod Resting
 pub mod Fronts

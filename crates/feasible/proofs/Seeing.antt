@@ -81,7 +81,7 @@ module _ (m : Program Task) where
 
 module _ (setup : ProgramWithInputs) (numbers : Numbering) where
   -- What is kept for events is kept for those before the end.
-  kept_before : (bound : ℕ) (events : List Event) (tasks : Tasks) (steps : List ℕ) (ended : Bool) → AreKept setup numbers bound events tasks steps ended →
+  pub kept_before : (bound : ℕ) (events : List Event) (tasks : Tasks) (steps : List ℕ) (ended : Bool) → AreKept setup numbers bound events tasks steps ended →
       (runs : Bool) × AreKept setup numbers bound (before_end events) tasks steps runs
   kept_before bound events tasks steps ended k =
       let (v, leads, same) = led_before (program_in setup numbers) (first_world setup numbers) k.bases events k.leads in (

@@ -1,6 +1,7 @@
 -- For which list of events what a judge keeps stands (this project's rule).
-use Rattle.std.specs.Prelude.{◌≡◌, ℕ, ◌+◌, ◌<◌, ◌≤◌, Bool, true, false, List, [], ◌∷◌, length, take, slice_index, ⊤}
+use Rattle.std.specs.Prelude.{◌≡◌, ℕ, ◌+◌, ◌<◌, ◌≤◌, Bool, true, false, List, [], ◌∷◌, ◌++◌, length, take, slice_index, ⊤}
 use Rattle.event_machine.specs.declared.Event.{Event}
+use Rattle.event_machine.specs.declared.Event.TheVariants.{Z}
 use Rattle.event_machine.specs.States.{is_live}
 use Rattle.event_machine.specs.Settling.{Leads, Follows}
 use Rattle.event_machine.specs.Worlds.{World, is_last}
@@ -61,3 +62,7 @@ is_infeasible (Unsettled at task) = false
 -- The task is closed, served or settled: where it is free, it has no local step left.
 abbrev pub IsSettled : Tasks → ℕ → Type 0
 IsSettled tasks t = is_live (seat_of tasks t).standing ≡ true → can_step (seat_of tasks t).local ≡ false
+
+-- The last of the events is the end of the program.
+abbrev pub HaveEnded : List Event → Type 0
+HaveEnded events = (front : List Event) × (events ≡ (front ++ Z ∷ []))

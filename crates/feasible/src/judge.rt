@@ -1,5 +1,7 @@
 // The judge.
 
+mod settled;
+
 ghost use Rattle.std.specs.Prelude.{◌≡◌, ◌≤◌, ◌<◌, ◌+◌, ◌^◌, ◌++◌, ◌∷◌, [], ℕ, List, true, false, ◌||◌, length, take, slice_index, All, IsErr, IfOk, OnOk, OnErr};
 ghost use Rattle.ada_tree.specs.PlainProgram.{plain_program};
 ghost use Rattle.event_machine.specs.declared.Event as event;

@@ -35,7 +35,12 @@ fn has_step(local: &LocalTask) -> bool
 }
 
 // Runs the task of this number on, where it is free: whether it is settled.
-fn settle(seats: &mut [Seat], steps: &mut [u64], bound: u64, t: u32) -> Result<bool, Memory>
+pub(crate) fn settle(
+    seats: &mut [Seat],
+    steps: &mut [u64],
+    bound: u64,
+    t: u32,
+) -> Result<bool, Memory>
     requires { length steps.old ≡ length seats.old }
     ensures run { OnOk result (HaveRun bound seats.old steps.old seats.new steps.new) }
     ensures settled { IfOk result (λ settled. settled ≡ true → IsSettled seats.new t) }
