@@ -1,6 +1,8 @@
 -- Between events: running a task on leaves what a judge stands for, and tells whether the task is open; whether the program has ended; how a task stands.
-use Rattle.std.proofs.Common.{◌≡◌, ◌↔◌, ℕ, Bool, true, false, not, ◌&&◌, ◌||◌, List, [], ◌∷◌, ◌++◌, length, take, refl, sym, ap, ◌∙◌, subst, true≢false, ⊎_elim}
+use Rattle.std.proofs.Common.{◌≡◌, ◌↔◌, ℕ, Bool, true, false, not, ◌&&◌, ◌||◌, List, [], ◌∷◌, ◌++◌, length, take, refl, sym, ap, ◌∙◌, subst, true≢false, ⊎_elim, Result, Ok, Err}
+use Rattle.std.specs.Prelude.{IfOk, OnOk}
 use Rattle.std.specs.List.{list_all}
+use Rattle.ada_tree.specs.declared.shortage.Memory.{Memory}
 use Rattle.std.proofs.lemmas.Bool.{cases_Bool, and_parts}
 use Rattle.std.proofs.Math.Seq.{take-length}
 use Rattle.event_machine.specs.declared.Event.{Event}
@@ -29,6 +31,7 @@ use Rattle.feasible.specs.Keeping.{AreKept, Counts, StandsFor, IsSettled, HaveEn
 use Rattle.feasible.specs.Kept.{Kept}
 use Rattle.feasible.specs.inner.Needs.{HaveRun, IsStuck}
 use Rattle.feasible.proofs.Judging.{keeps_run, stands, settled_closed, stuck_open}
+use Rattle.feasible.proofs.Running.{settled_stays}
 use Rattle.feasible.proofs.Seeing.{kept_before}
 use Rattle.feasible.proofs.Continuing.{seat_settled}
 
@@ -170,6 +173,23 @@ module _ (setup : ProgramWithInputs) (events : List Event) (j : Kept) (s : Stand
     λ (k : StandsIn setup j.numbers (take j.taken events) t is_served).
         ap is_served (stands_unique setup j.numbers (take j.taken events) t (seat_of j.tasks t).standing k.0 (stands_here t) k.1) ∙ k.2,
   )
+
+-- the clauses of running a task on, by its answer
+pub settle_exact : (setup : ProgramWithInputs) (events : List Event) (old new : Kept) (t : ℕ) (result : Result Bool Memory) → StandsFor setup events old →
+    OnOk result (HaveRun old.bound old.tasks old.steps new.tasks new.steps) → IfOk result (λ settled. settled ≡ true → IsSettled new.tasks t) →
+    IfOk result (λ settled. settled ≡ false → IsStuck old.bound new.tasks new.steps t) → IfOk result (λ settled. (settled ≡ false) ↔ IsOpenAt setup old.numbers (take old.taken events) t old.bound)
+settle_exact setup events old new t (Err memory) s run rests stuck = tt
+settle_exact setup events old new t (Ok settled) s run rests stuck = open_exactly setup events old s new.tasks new.steps run t settled rests stuck
+
+pub settle_stands : (setup : ProgramWithInputs) (events : List Event) (old new : Kept) (result : Result Bool Memory) → StandsFor setup events old →
+    OnOk result (HaveRun old.bound old.tasks old.steps new.tasks new.steps) → new.numbers ≡ old.numbers → new.bound ≡ old.bound → new.taken ≡ old.taken → new.ended ≡ old.ended → new.verdict ≡ old.verdict →
+    OnOk result (new.lost ≡ false) → OnOk result (StandsFor setup events new)
+settle_stands setup events old new (Err memory) s run numbers bound taken ended verdict found = tt
+settle_stands setup events old new (Ok settled) s run numbers bound taken ended verdict found = stands_on setup events old s new.tasks new.steps run new refl refl numbers bound taken ended verdict found
+
+pub settle_others : (old new : Kept) (t : ℕ) (result : Result Bool Memory) → OnOk result (HaveRun old.bound old.tasks old.steps new.tasks new.steps) → IsSettled old.tasks t → OnOk result (IsSettled new.tasks t)
+settle_others old new t (Err memory) run h = tt
+settle_others old new t (Ok settled) run h = settled_stays old.bound run t h
 
 -- ---- a judge that has found its events feasible
 

@@ -7,6 +7,7 @@ ghost use Rattle.task_model.specs.Machine.{ProgramWithInputs};
 ghost use Rattle.task_machine.specs.Table.{seat_of};
 ghost use Rattle.task_machine.specs.Views.{IsOpenAt, StandsIn};
 ghost use Rattle.feasible.specs.Keeping.{StandsFor, IsSettled, HaveEnded};
+ghost use Rattle.feasible.specs.inner.Needs.{HaveRun, IsStuck};
 
 use super::Judge;
 use crate::settling::settle;
@@ -34,16 +35,7 @@ impl<'p> Judge<'p> {
         ensures memory { OnOk result (self.new.lost ≡ false) }
         ensures lost { OnErr result (self.new.lost ≡ true) }
     {
-        if self.lost {
-            return Err(Memory);
-        }
-        match settle(&mut self.seats, &mut self.steps, self.bound, task) {
-            Ok(settled) => Ok(settled),
-            Err(memory) => {
-                self.lost = true;
-                Err(memory)
-            }
-        }
+        self.run_task(task)
     }
 
     /// Gives the judge up, where its caller is out of memory: it answers want of memory from then on.
@@ -72,6 +64,34 @@ impl<'p> Judge<'p> {
         ensures exact { (setup : ProgramWithInputs) (events : List event.Event) → StandsFor setup events self.now → (result ≡ true) ↔ StandsIn setup self.now.numbers (take self.now.taken events) task is_served }
     {
         is_served(standing_at(&self.seats, task))
+    }
+}
+
+impl<'p> Judge<'p> {
+    // Runs a task on, where it is free: whether it is settled.
+    fn run_task(&mut self, task: u32) -> Result<bool, Memory>
+        ensures run { OnOk result (HaveRun self.old.bound self.old.tasks self.old.steps self.new.tasks self.new.steps) }
+        ensures settled { IfOk result (λ settled. settled ≡ true → IsSettled self.new.tasks task) }
+        ensures stuck { IfOk result (λ settled. settled ≡ false → IsStuck self.old.bound self.new.tasks self.new.steps task) }
+        ensures numbers { self.new.numbers ≡ self.old.numbers }
+        ensures bound { self.new.bound ≡ self.old.bound }
+        ensures taken { self.new.taken ≡ self.old.taken }
+        ensures ended { self.new.ended ≡ self.old.ended }
+        ensures verdict { self.new.verdict ≡ self.old.verdict }
+        ensures found { OnOk result (self.old.lost ≡ false) }
+        ensures memory { OnOk result (self.new.lost ≡ false) }
+        ensures lost { OnErr result (self.new.lost ≡ true) }
+    {
+        if self.lost {
+            return Err(Memory);
+        }
+        match settle(&mut self.seats, &mut self.steps, self.bound, task) {
+            Ok(settled) => Ok(settled),
+            Err(memory) => {
+                self.lost = true;
+                Err(memory)
+            }
+        }
     }
 }
 
