@@ -1,0 +1,4 @@
+pub mod Steps
+pub mod Verdicts
+pub mod Shown
+pub mod Laws

@@ -1,0 +1,4 @@
+//! Sequences of events by tasks.
+#![tactic(auto)]
+
+pub mod laws;
