@@ -1,3 +1,5 @@
 pub mod Reading
 pub mod Writing
 pub mod Swapping
+pub mod Leading
+pub mod Traces

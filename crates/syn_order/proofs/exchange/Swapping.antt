@@ -22,6 +22,19 @@ use Rattle.syn_order.proofs.exchange.Reading.{AreNear, needs_touches, happens_ne
 use Rattle.syn_order.proofs.exchange.Writing.{acted_near, changes_near}
 use Rattle.common_lemmas.proofs.Numbers.{equal_self, le_true}
 
+-- the last event is the end of the program
+pub last_is : (e : Event) → is_last e ≡ true → e ≡ Z
+last_is (R c e i) h = absurd (true≢false (sym h))
+last_is (E a) h = absurd (true≢false (sym h))
+last_is (S a) h = absurd (true≢false (sym h))
+last_is (D a k) h = absurd (true≢false (sym h))
+last_is (C c e i) h = absurd (true≢false (sym h))
+last_is (T c e i) h = absurd (true≢false (sym h))
+last_is (F c e i) h = absurd (true≢false (sym h))
+last_is (X a) h = absurd (true≢false (sym h))
+last_is (B u x) h = absurd (true≢false (sym h))
+last_is Z h = refl
+
 -- ---- events that are apart
 
 module _ (owner : ℕ → ℕ) (n : ℕ) (k : Known) (e f : Event) (apart : AreApart owner n k e f) where
@@ -49,29 +62,11 @@ module _ {L : Type 0} (p : Program L) where
 
   -- the end of the program touches all
   last_touches : (k : Known) (e : Event) (t : ℕ) → is_last e ≡ true → touches p.owner k e t ≡ true
-  last_touches k (R c e i) t h = absurd (true≢false (sym h))
-  last_touches k (E a) t h = absurd (true≢false (sym h))
-  last_touches k (S a) t h = absurd (true≢false (sym h))
-  last_touches k (D a n) t h = absurd (true≢false (sym h))
-  last_touches k (C c e i) t h = absurd (true≢false (sym h))
-  last_touches k (T c e i) t h = absurd (true≢false (sym h))
-  last_touches k (F c e i) t h = absurd (true≢false (sym h))
-  last_touches k (X a) t h = absurd (true≢false (sym h))
-  last_touches k (B u x) t h = absurd (true≢false (sym h))
-  last_touches k Z t h = refl
+  last_touches k e t h = ap (λ d. touches p.owner k d t) (last_is e h)
 
-  -- nor does it change what is known of a task
+  -- and changes nothing that is known of a task
   last_known : (k : Known) (e : Event) → is_last e ≡ true → (advanced p.owner k e).parties ≡ k.parties
-  last_known k (R c e i) h = absurd (true≢false (sym h))
-  last_known k (E a) h = absurd (true≢false (sym h))
-  last_known k (S a) h = refl
-  last_known k (D a n) h = refl
-  last_known k (C c e i) h = refl
-  last_known k (T c e i) h = refl
-  last_known k (F c e i) h = refl
-  last_known k (X a) h = absurd (true≢false (sym h))
-  last_known k (B u x) h = absurd (true≢false (sym h))
-  last_known k Z h = refl
+  last_known k e h = ap (λ d. (advanced p.owner k d).parties) (last_is e h)
 
   -- ---- worlds in which the tasks that it touches are the same
 
@@ -253,3 +248,11 @@ module _ {L : Type 0} (p : Program L) where
         pub e_second : Fires p between e last
         unfolding e_there fires_here
         e_second = record { steps = first.steps; settles = e_there.settles; runs = e_there.runs; holds = e_there.holds; becomes = same_end }
+
+        pub f_steps : f_first.steps ≡ second.steps
+        unfolding f_first fires_here
+        f_steps = refl
+
+        pub e_steps : e_second.steps ≡ first.steps
+        unfolding e_second
+        e_steps = refl
