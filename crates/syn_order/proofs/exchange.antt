@@ -3,3 +3,5 @@ pub mod Writing
 pub mod Swapping
 pub mod Leading
 pub mod Traces
+pub mod Showing
+pub mod Verdicts

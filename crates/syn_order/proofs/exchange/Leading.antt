@@ -1,5 +1,5 @@
 -- Lists that are alike lead to the same bases, by the very same steps.
-use Rattle.std.proofs.Common.{◌≡◌, ◌↔◌, ℕ, Bool, true, List, [], ◌∷◌, ◌++◌, refl, sym, ap, ◌∙◌, subst}
+use Rattle.std.proofs.Common.{◌≡◌, ℕ, Bool, true, List, [], ◌∷◌, ◌++◌, refl, sym, subst}
 use Rattle.event_machine.specs.declared.Event.{Event}
 use Rattle.event_machine.specs.Lawful.{IsLawful}
 use Rattle.event_machine.specs.Programs.{Program}
@@ -36,6 +36,12 @@ module _ {L : Type 0} (p : Program L) where
   pub leads_all : (events : List Event) (w last : World L) → Leads p w events last → LeadsBy (λ e t n. true) p w events last
   leads_all [] w last h = h
   leads_all (e ∷ events) w last (next, fires, h) = (next, fires, (λ t. refl), leads_all events next last h)
+
+  -- one list behind the other
+  pub by_split : (test : Event → ℕ → ℕ → Bool) (xs ys : List Event) (w last : World L) → LeadsBy test p w (xs ++ ys) last →
+      (v : World L) × Leads p w xs v × LeadsBy test p v ys last
+  by_split test [] ys w last h = (w, refl, h)
+  by_split test (x ∷ xs) ys w last (next, fires, passes, h) = let (v, there, more) = by_split test xs ys next last h in (v, (next, fires, there), more)
 
   module _ (IsProper : L → Type 0) (lawful : IsLawful p.ops IsProper) (test : Event → ℕ → ℕ → Bool) where
     pub alike_leads : (k : Known) (xs ys : List Event) → AreAlike p.owner p.size k xs ys → (w last : World L) → IsBase p IsProper lawful w → Tells p.ops k w.tasks →
