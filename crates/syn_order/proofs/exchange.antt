@@ -5,3 +5,4 @@ pub mod Leading
 pub mod Traces
 pub mod Showing
 pub mod Verdicts
+pub mod Telling
