@@ -6,3 +6,4 @@ pub mod Traces
 pub mod Showing
 pub mod Verdicts
 pub mod Telling
+pub mod Examples

@@ -2,3 +2,4 @@ pub mod Steps
 pub mod Verdicts
 pub mod Shown
 pub mod Laws
+pub mod Example

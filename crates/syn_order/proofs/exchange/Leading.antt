@@ -4,11 +4,11 @@ use Rattle.event_machine.specs.declared.Event.{Event}
 use Rattle.event_machine.specs.Lawful.{IsLawful}
 use Rattle.event_machine.specs.Programs.{Program}
 use Rattle.event_machine.specs.Worlds.{World}
-use Rattle.event_machine.specs.Settling.{Fires, Leads}
+use Rattle.event_machine.specs.Settling.{Leads}
 use Rattle.event_machine.specs.progress.Known.{Known, advanced, known_from}
 use Rattle.event_machine.proofs.Bases.{IsBase, base_fires}
 use Rattle.event_machine.proofs.progress.Telling.{Tells}
-use Rattle.syn_order.specs.Apart.{AreApart, AreAlike, same, first_same, exchanged, further}
+use Rattle.syn_order.specs.Apart.{AreAlike, same, first_same, exchanged, further}
 use Rattle.syn_order.specs.exchange.Steps.{LeadsBy}
 use Rattle.syn_order.proofs.exchange.Swapping.{apart_turned, tells_fires, between, f_first, e_second, f_steps, e_steps}
 

@@ -1,11 +1,11 @@
 -- Two events that are apart happen in either order, by the very same steps and to the same bases.
 use Rattle.std.proofs.Common.{◌≡◌, ℕ, zero, suc, ◌<◌, ◌≤◌, Bool, true, false, not, ◌&&◌, ◌||◌, ◌==◌, if◌then◌else◌, slice_index_or, refl, sym, ap, ◌∙◌, subst, ⊎_elim, true≢false}
 use Rattle.std.specs.Prelude.{MatchBool}
-use Rattle.std.proofs.lemmas.Bool.{and_parts, and_from, or_parts, cases_Bool, cases_lt, false_from_ne_true}
+use Rattle.std.proofs.lemmas.Bool.{and_parts, or_parts, cases_Bool, cases_lt, false_from_ne_true}
 use Rattle.event_machine.specs.declared.Standing.TheVariants.{Live}
 use Rattle.event_machine.specs.declared.Event.{Event}
 use Rattle.event_machine.specs.declared.Event.TheVariants.{R, E, S, D, C, T, F, X, B, Z}
-use Rattle.event_machine.specs.States.{Seat, is_live, is_closed, is_completed}
+use Rattle.event_machine.specs.States.{Seat, is_live, is_completed}
 use Rattle.event_machine.specs.Soundness.{IsSound}
 use Rattle.event_machine.specs.Lawful.{IsLawful, Keeps}
 use Rattle.event_machine.specs.Programs.{Program, numbered}
@@ -20,7 +20,7 @@ use Rattle.event_machine.proofs.progress.Telling.{Tells, tells_acted}
 use Rattle.syn_order.specs.Apart.{AreApart}
 use Rattle.syn_order.proofs.exchange.Reading.{AreNear, needs_touches, happens_near, changes_touches}
 use Rattle.syn_order.proofs.exchange.Writing.{acted_near, changes_near}
-use Rattle.common_lemmas.proofs.Numbers.{equal_self, le_true}
+use Rattle.common_lemmas.proofs.Numbers.{equal_self}
 
 -- the last event is the end of the program
 pub last_is : (e : Event) → is_last e ≡ true → e ≡ Z

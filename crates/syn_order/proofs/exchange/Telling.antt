@@ -1,11 +1,10 @@
 -- The law of exchange as it is told: of a program in its opening state, with its tasks in a list.
-use Rattle.std.proofs.Common.{◌≡◌, ◌↔◌, ℕ, ◌<◌, Bool, true, List, [], ◌∷◌, ◌++◌, length, refl, slice_index_or}
+use Rattle.std.proofs.Common.{◌↔◌, ℕ, Bool, true, List, [], ◌∷◌, ◌++◌, refl}
 use Rattle.event_machine.specs.declared.Event.{Event}
-use Rattle.event_machine.specs.States.{Seat, State, completed}
+use Rattle.event_machine.specs.States.{Seat, State}
 use Rattle.event_machine.specs.Runs.{Feasible}
-use Rattle.event_machine.specs.Programs.{numbered, listed, by_number, IsOpening}
+use Rattle.event_machine.specs.Programs.{numbered, by_number, IsOpening}
 use Rattle.event_machine.specs.Worlds.{World}
-use Rattle.event_machine.specs.Tallies.{RestIs}
 use Rattle.event_machine.specs.progress.Known.{known_at_start}
 use Rattle.event_machine.specs.progress.Laws.{Opened, IsYes}
 use Rattle.event_machine.proofs.Bases.{IsBase}
@@ -16,7 +15,7 @@ use Rattle.event_machine.proofs.ListLaws.{opening_numbers, feasible_list}
 use Rattle.event_machine.proofs.progress.Moves.{Knows}
 use Rattle.event_machine.proofs.progress.Runs.{knows_after}
 use Rattle.event_machine.proofs.progress.Telling.{Tells}
-use Rattle.syn_order.specs.Apart.{AreApart, AreAlike, exchanged}
+use Rattle.syn_order.specs.Apart.{AreAlike, exchanged}
 use Rattle.syn_order.specs.exchange.Steps.{LeadsBy}
 use Rattle.syn_order.specs.exchange.Verdicts.{IsOpenAt, AllFeasible}
 use Rattle.syn_order.specs.exchange.Shown.{AllShownBy}

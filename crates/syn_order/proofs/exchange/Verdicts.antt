@@ -1,12 +1,11 @@
 -- All goes well with a list exactly where it leads somewhere, and each event finds the tasks within the bound.
-use Rattle.std.proofs.Common.{◌≡◌, ◌↔◌, ℕ, suc, ◌<◌, ◌≤◌, Bool, true, false, ◌&&◌, List, [], ◌∷◌, ◌++◌, refl, sym, ap, ◌∙◌, subst, ⊎_elim, true≢false, append_assoc, arith}
+use Rattle.std.proofs.Common.{◌≡◌, ◌↔◌, ℕ, suc, ◌<◌, ◌≤◌, Bool, true, false, ◌&&◌, List, [], ◌∷◌, ◌++◌, refl, sym, ap, ◌∙◌, subst, ⊎_elim, append_assoc, arith}
 use Rattle.std.specs.Prelude.{nat_le}
 use Rattle.std.proofs.lemmas.Bool.{cases_lt, and_parts}
 use Rattle.event_machine.specs.declared.Standing.TheVariants.{Live}
 use Rattle.event_machine.specs.declared.Event.{Event}
 use Rattle.event_machine.specs.States.{Seat, State, is_live}
 use Rattle.event_machine.specs.Lawful.{IsLawful}
-use Rattle.event_machine.specs.Runs.{Feasible}
 use Rattle.event_machine.specs.Programs.{Program, numbered, IsOpening}
 use Rattle.event_machine.specs.Worlds.{World, world_of, needs}
 use Rattle.event_machine.specs.Settling.{ran, HasSteps, Fires, Leads}
@@ -14,7 +13,7 @@ use Rattle.event_machine.specs.Tallies.{RestIs, before_end}
 use Rattle.event_machine.proofs.Basics.{both}
 use Rattle.event_machine.proofs.Standings.{is-Live}
 use Rattle.event_machine.proofs.Stepping.{steps_fewer, step_before, settles_most}
-use Rattle.event_machine.proofs.Following.{deterministic, leads_once}
+use Rattle.event_machine.proofs.Following.{leads_once}
 use Rattle.event_machine.proofs.Bases.{found_steps, steps_idle, steps_settle}
 use Rattle.event_machine.proofs.Walking.{leads_append, leads_split}
 use Rattle.event_machine.proofs.Reaching.{feasible_back}

@@ -1,7 +1,7 @@
 -- The law of exchange: the order of neighbours that touch no common task is of no matter to a program (this project's rule).
-use Rattle.std.specs.Prelude.{◌≡◌, ◌↔◌, ℕ, Bool, List, [], ◌∷◌, ◌++◌, length}
+use Rattle.std.specs.Prelude.{◌↔◌, ℕ, Bool, List, ◌∷◌, ◌++◌, length}
 use Rattle.event_machine.specs.declared.Event.{Event}
-use Rattle.event_machine.specs.States.{Seat, State, Rules}
+use Rattle.event_machine.specs.States.{Seat, Rules}
 use Rattle.event_machine.specs.Runs.{Feasible}
 use Rattle.event_machine.specs.Programs.{Program, listed, by_number}
 use Rattle.event_machine.specs.Worlds.{World, world_of}
