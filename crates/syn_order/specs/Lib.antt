@@ -1,2 +1,4 @@
+pub mod Orders
 pub mod Apart
+pub mod Laws
 pub mod exchange

@@ -10,7 +10,8 @@ use Rattle.event_machine.proofs.Bases.{IsBase, base_fires}
 use Rattle.event_machine.proofs.progress.Telling.{Tells}
 use Rattle.syn_order.specs.Apart.{AreAlike, same, first_same, exchanged, further}
 use Rattle.syn_order.specs.exchange.Steps.{LeadsBy}
-use Rattle.syn_order.proofs.exchange.Swapping.{apart_turned, tells_fires, between, f_first, e_second, f_steps, e_steps}
+use Rattle.syn_order.proofs.Apart.{apart_turned}
+use Rattle.syn_order.proofs.exchange.Swapping.{tells_fires, between, f_first, e_second, f_steps, e_steps}
 
 -- ---- lists that are alike
 

@@ -18,6 +18,7 @@ use Rattle.event_machine.proofs.Bases.{IsBase, base_fires, completed_fires, next
 use Rattle.event_machine.proofs.progress.Seats.{told_keeps}
 use Rattle.event_machine.proofs.progress.Telling.{Tells, tells_acted}
 use Rattle.syn_order.specs.Apart.{AreApart}
+use Rattle.syn_order.proofs.Apart.{other_false, apart_turned}
 use Rattle.syn_order.proofs.exchange.Reading.{AreNear, needs_touches, happens_near, changes_touches}
 use Rattle.syn_order.proofs.exchange.Writing.{acted_near, changes_near}
 use Rattle.common_lemmas.proofs.Numbers.{equal_self}
@@ -35,16 +36,9 @@ last_is (X a) h = absurd (true≢false (sym h))
 last_is (B u x) h = absurd (true≢false (sym h))
 last_is Z h = refl
 
--- ---- events that are apart
-
-module _ (owner : ℕ → ℕ) (n : ℕ) (k : Known) (e f : Event) (apart : AreApart owner n k e f) where
-  -- the one does not touch what the other touches
-  pub not_touched : (t : ℕ) → t < n → touches owner k e t ≡ true → touches owner k f t ≡ false
-  not_touched t l h = sym (ap (λ b. b && touches owner k f t) h) ∙ apart t l
-
-  pub apart_turned : AreApart owner n k f e
-  apart_turned t l = false_from_ne_true (touches owner k f t && touches owner k e t)
-      (λ h. let parts = and_parts (touches owner k f t) (touches owner k e t) h in true≢false (sym parts.0 ∙ not_touched t l parts.1))
+-- where two events are apart the one does not touch what the other touches
+not_touched : (owner : ℕ → ℕ) (n : ℕ) (k : Known) (e f : Event) → AreApart owner n k e f → (t : ℕ) → t < n → touches owner k e t ≡ true → touches owner k f t ≡ false
+not_touched owner n k e f apart t l h = other_false (touches owner k e t) (touches owner k f t) (apart t l) h
 
 module _ {L : Type 0} (p : Program L) where
   -- an event that happens needs a free task, but for the end of the program
