@@ -7,7 +7,7 @@ use Rattle.event_machine.specs.Runs.{Feasible}
 use Rattle.event_machine.specs.Programs.{Program, numbered, listed, by_number, IsOpening}
 use Rattle.event_machine.specs.Worlds.{World}
 use Rattle.event_machine.specs.progress.Known.{known_at_start, known}
-use Rattle.event_machine.specs.progress.Laws.{Opened, IsYes}
+use Rattle.event_machine.specs.progress.Laws.{IsYes}
 use Rattle.event_machine.proofs.Bases.{IsBase}
 use Rattle.event_machine.proofs.Reaching.{start_base, feasible_back}
 use Rattle.event_machine.proofs.Resting.{feasible_leads}

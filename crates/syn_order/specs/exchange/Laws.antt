@@ -51,7 +51,9 @@ LawOfExchange L =
 
 -- Lists of which one comes from the other by such exchanges are the same to the program.
 abbrev pub LawOfAlike : Type 0 → Type 0
-LawOfAlike L = (o : Opened L) (xs ys : List Event) → AreAlike o.owner (size_of o) (known_at_start (size_of o)) xs ys → AreSame o.ops o.owner o.state xs ys
+LawOfAlike L =
+    (o : Opened L) (xs ys : List Event) → AreAlike o.owner (size_of o) (known_at_start (size_of o)) xs ys →
+    AreSame o.ops o.owner o.state xs ys
 
 -- So are two admitted lists that have the same events for each task, in the same order.
 abbrev pub LawOfLists : Type 0 → Type 0
