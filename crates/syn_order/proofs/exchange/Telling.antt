@@ -110,6 +110,12 @@ module _ {L : Type 0} (ops : Ops L) (owner : ℕ → ℕ) (IsProper : L → Type
       turned : AreAlike owner n (known_at_start n) ys xs
       turned = alike_turned owner n (known_at_start n) xs ys alike
 
+  -- a list with which all goes well is feasible
+  pub well_feasible : (bound : ℕ) (events : List Event) → AllFeasible (rules ops owner s) s bound events → Feasible (rules ops owner s) s events
+  well_feasible bound events well =
+      let (last, leads) = (well_exactly p IsProper lawful numbers opening proper bound events).0 ((well_there bound events).0 well) in
+      (feasible_list ops owner IsProper lawful s opens_so proper events).1 (last, leads_any p (within bound) events there last leads)
+
   -- ---- feasible lists are admitted
 
   admitted_on : (before rest : List Event) → Feasible (rules ops owner s) s (before ++ rest) → AreAdmitted owner (known owner n before) rest
