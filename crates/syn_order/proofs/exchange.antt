@@ -1,3 +1,4 @@
+-- Cite `Telling` for the laws, where any predicate may tell the proper states; `Swapping` has two events in either order, and `Verdicts` what it is that all goes well.
 pub mod Reading
 pub mod Writing
 pub mod Swapping
