@@ -21,7 +21,7 @@ use Rattle.syn_order.specs.Apart.{AreAlike, exchanged}
 use Rattle.syn_order.specs.exchange.Steps.{LeadsBy}
 use Rattle.syn_order.specs.exchange.Verdicts.{IsOpenAt, AllFeasible}
 use Rattle.syn_order.specs.exchange.Shown.{AllShownBy}
-use Rattle.syn_order.specs.exchange.Laws.{program, rules, start, AreSame, size_of, LawOfExchange, LawOfAlike, LawOfLists, FeasibleAreAdmitted}
+use Rattle.syn_order.specs.exchange.Laws.{program, rules_in, start, AreSame, size_of, LawOfExchange, LawOfAlike, LawOfLists, FeasibleAreAdmitted}
 use Rattle.syn_order.proofs.Carried.{same_lists_are_alike}
 use Rattle.syn_order.proofs.exchange.Leading.{alike_turned, alike_behind, leads_any, leads_all, alike_leads}
 use Rattle.syn_order.proofs.exchange.Showing.{all_shown}
@@ -55,20 +55,20 @@ module _ {L : Type 0} (ops : Ops L) (owner : ℕ → ℕ) (IsProper : L → Type
 
   -- ---- tasks in a list, and by their numbers
 
-  feasible : (events : List Event) → Feasible (rules ops owner s) s events ↔ Feasible (numbered p) numbers events
+  feasible : (events : List Event) → Feasible (rules_in ops owner s) s events ↔ Feasible (numbered p) numbers events
   feasible events =
       let same = feasible_list ops owner IsProper lawful s opens_so proper events in (
         λ h. let (w, leads) = same.0 h in feasible_back p IsProper lawful numbers opening proper events w leads,
         λ h. same.1 (feasible_leads p IsProper lawful numbers opening proper events h),
       )
 
-  open_there : (events : List Event) (t n : ℕ) → IsOpenAt (rules ops owner s) s events t n ↔ IsOpenAt (numbered p) numbers events t n
+  open_there : (events : List Event) (t n : ℕ) → IsOpenAt (rules_in ops owner s) s events t n ↔ IsOpenAt (numbered p) numbers events t n
   open_there events t n = (
     λ (l, (tasks, tally, run, is, counted), more). (l, (tasks, tally, (joined p s refl _ tasks tally).0 run, is, counted), more),
     λ (l, (tasks, tally, run, is, counted), more). (l, (tasks, tally, (joined p s refl _ tasks tally).1 run, is, counted), more),
   )
 
-  well_there : (bound : ℕ) (events : List Event) → AllFeasible (rules ops owner s) s bound events ↔ AllFeasible (numbered p) numbers bound events
+  well_there : (bound : ℕ) (events : List Event) → AllFeasible (rules_in ops owner s) s bound events ↔ AllFeasible (numbered p) numbers bound events
   well_there bound events = (
     λ well front back e q. let (none, can) = well front back e q in ((λ t need is. none t need ((open_there front t bound).1 is)), (feasible (front ++ e ∷ [])).0 can),
     λ well front back e q. let (none, can) = well front back e q in ((λ t need is. none t need ((open_there front t bound).0 is)), (feasible (front ++ e ∷ [])).1 can),
@@ -80,20 +80,20 @@ module _ {L : Type 0} (ops : Ops L) (owner : ℕ → ℕ) (IsProper : L → Type
     leads_too : (test : Event → ℕ → ℕ → Bool) (last : World L) → LeadsBy test p there xs last → LeadsBy test p there ys last
     leads_too test last = alike_leads p IsProper lawful test (known_at_start n) xs ys alike there last base tells
 
-    feasible_too : Feasible (rules ops owner s) s xs → Feasible (rules ops owner s) s ys
+    feasible_too : Feasible (rules_in ops owner s) s xs → Feasible (rules_in ops owner s) s ys
     feasible_too h =
         let (w, leads) = (feasible_list ops owner IsProper lawful s opens_so proper xs).0 h in
         (feasible_list ops owner IsProper lawful s opens_so proper ys).1
         (w, leads_any p (λ e t n. true) ys there w (leads_too (λ e t n. true) w (leads_all p xs there w leads)))
 
-    shown_too : AllShownBy (rules ops owner s) s xs ys
+    shown_too : AllShownBy (rules_in ops owner s) s xs ys
     shown_too tasks tally run =
         let (others, other_tally, there, shown) = all_shown p IsProper lawful numbers opening proper xs ys
         (λ last leads. leads_any p (λ e t n. true) ys there last (leads_too (λ e t n. true) last (leads_all p xs there last leads)))
         tasks tally ((joined p s refl xs tasks tally).0 run) in
         (others, other_tally, (joined p s refl ys others other_tally).1 there, shown)
 
-    well_too : (bound : ℕ) → AllFeasible (rules ops owner s) s bound xs → AllFeasible (rules ops owner s) s bound ys
+    well_too : (bound : ℕ) → AllFeasible (rules_in ops owner s) s bound xs → AllFeasible (rules_in ops owner s) s bound ys
     well_too bound well =
         let (last, leads) = (well_exactly p IsProper lawful numbers opening proper bound xs).0 ((well_there bound xs).0 well) in
         (well_there bound ys).1 ((well_exactly p IsProper lawful numbers opening proper bound ys).1 (last, leads_too (within bound) last leads))
@@ -111,23 +111,23 @@ module _ {L : Type 0} (ops : Ops L) (owner : ℕ → ℕ) (IsProper : L → Type
       turned = alike_turned owner n (known_at_start n) xs ys alike
 
   -- a list with which all goes well is feasible
-  pub well_feasible : (bound : ℕ) (events : List Event) → AllFeasible (rules ops owner s) s bound events → Feasible (rules ops owner s) s events
+  pub well_feasible : (bound : ℕ) (events : List Event) → AllFeasible (rules_in ops owner s) s bound events → Feasible (rules_in ops owner s) s events
   well_feasible bound events well =
       let (last, leads) = (well_exactly p IsProper lawful numbers opening proper bound events).0 ((well_there bound events).0 well) in
       (feasible_list ops owner IsProper lawful s opens_so proper events).1 (last, leads_any p (within bound) events there last leads)
 
   -- ---- feasible lists are admitted
 
-  admitted_on : (before rest : List Event) → Feasible (rules ops owner s) s (before ++ rest) → AreAdmitted owner (known owner n before) rest
+  admitted_on : (before rest : List Event) → Feasible (rules_in ops owner s) s (before ++ rest) → AreAdmitted owner (known owner n before) rest
   admitted_on before [] h = tt
   admitted_on before (e ∷ rest) h =
-      let along : Feasible (rules ops owner s) s ((before ++ e ∷ []) ++ rest) = subst (Feasible (rules ops owner s) s) (sym (append_assoc before (e ∷ []) rest)) h in (
+      let along : Feasible (rules_in ops owner s) s ((before ++ e ∷ []) ++ rest) = subst (Feasible (rules_in ops owner s) s) (sym (append_assoc before (e ∷ []) rest)) h in (
         admitted_list ops owner IsProper lawful s opens_so proper before e
             (feasible_before_list ops owner IsProper lawful s opens_so proper (before ++ e ∷ []) rest along),
         subst (λ k. AreAdmitted owner k rest) (known_last owner (known_at_start n) before e) (admitted_on (before ++ e ∷ []) rest along),
       )
 
-  pub feasible_admitted : (events : List Event) → Feasible (rules ops owner s) s events → AreAdmitted owner (known_at_start n) events
+  pub feasible_admitted : (events : List Event) → Feasible (rules_in ops owner s) s events → AreAdmitted owner (known_at_start n) events
   feasible_admitted events h = admitted_on [] events h
 
 module _ {L : Type 0} where

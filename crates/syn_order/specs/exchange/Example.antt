@@ -10,7 +10,7 @@ use Rattle.event_machine.specs.Runs.{Feasible}
 use Rattle.event_machine.specs.progress.Known.{known_at_start}
 use Rattle.event_machine.specs.progress.Laws.{Opened}
 use Rattle.syn_order.specs.Apart.{AreApart}
-use Rattle.syn_order.specs.exchange.Laws.{rules, size_of}
+use Rattle.syn_order.specs.exchange.Laws.{rules_in, size_of}
 
 -- The states of its tasks.
 pub data Three : Type 0 where
@@ -104,5 +104,5 @@ pub record ThreeAreExchanged : Type 0 where
   pub ops : o.ops ≡ three_ops
   pub seats : o.state.seats ≡ three_seats
   pub apart : AreApart o.owner (size_of o) (known_at_start (size_of o)) (R 0 1 (pos 0)) (X 2)
-  pub feasible : Feasible (rules o.ops o.owner o.state) o.state (R 0 1 (pos 0) ∷ X 2 ∷ three_rest)
-  pub exchanged : Feasible (rules o.ops o.owner o.state) o.state (X 2 ∷ R 0 1 (pos 0) ∷ three_rest)
+  pub feasible : Feasible (rules_in o.ops o.owner o.state) o.state (R 0 1 (pos 0) ∷ X 2 ∷ three_rest)
+  pub exchanged : Feasible (rules_in o.ops o.owner o.state) o.state (X 2 ∷ R 0 1 (pos 0) ∷ three_rest)

@@ -19,8 +19,8 @@ module _ {L : Type 0} (ops : Ops L) (owner : ℕ → ℕ) (s : State (List (Seat
   abbrev pub program : Program L
   program = program_with ops owner s
 
-  abbrev pub rules : Rules L (List (Seat L))
-  rules = listed program
+  abbrev pub rules_in : Rules L (List (Seat L))
+  rules_in = listed program
 
   -- the bases before the first event
   abbrev pub start : World L
@@ -29,14 +29,14 @@ module _ {L : Type 0} (ops : Ops L) (owner : ℕ → ℕ) (s : State (List (Seat
   -- The two are the same to the program.
   pub record AreSame (xs ys : List Event) : Type 0 where
     -- one is feasible where the other is
-    pub feasible : Feasible rules s xs ↔ Feasible rules s ys
+    pub feasible : Feasible rules_in s xs ↔ Feasible rules_in s ys
     -- both lead to the same bases, by the very same steps: whatever is asked of the steps that each event finds made
     pub leads : (test : Event → ℕ → ℕ → Bool) (last : World L) → LeadsBy test program start xs last ↔ LeadsBy test program start ys last
     -- whatever a run with the one shows, some run with the other shows
-    pub shown : AllShownBy rules s xs ys
-    pub shown_back : AllShownBy rules s ys xs
+    pub shown : AllShownBy rules_in s xs ys
+    pub shown_back : AllShownBy rules_in s ys xs
     -- with whatever bound, all goes well with the one where it does with the other
-    pub verdict : (bound : ℕ) → AllFeasible rules s bound xs ↔ AllFeasible rules s bound ys
+    pub verdict : (bound : ℕ) → AllFeasible rules_in s bound xs ↔ AllFeasible rules_in s bound ys
 
 -- ---- the laws, of a program in its opening state
 
@@ -65,4 +65,4 @@ LawOfLists L =
 -- Each feasible list is admitted.
 abbrev pub FeasibleAreAdmitted : Type 0 → Type 0
 FeasibleAreAdmitted L =
-    (o : Opened L) (events : List Event) → Feasible (rules o.ops o.owner o.state) o.state events → AreAdmitted o.owner (known_at_start (size_of o)) events
+    (o : Opened L) (events : List Event) → Feasible (rules_in o.ops o.owner o.state) o.state events → AreAdmitted o.owner (known_at_start (size_of o)) events
