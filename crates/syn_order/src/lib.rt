@@ -1,0 +1,3 @@
+//! Sequences of events by tasks.
+#![tactic(auto)]
+
