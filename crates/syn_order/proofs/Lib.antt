@@ -1,3 +1,5 @@
 pub mod Locality
 pub mod Apart
 pub mod Pulling
+pub mod Joining
+pub mod Carried
