@@ -3,3 +3,4 @@ pub mod Apart
 pub mod Pulling
 pub mod Joining
 pub mod Carried
+pub mod Callers
