@@ -9,13 +9,8 @@ use Rattle.event_machine.specs.declared.Event.TheVariants.{R, E, S, D, C, T, F, 
 use Rattle.event_machine.specs.Soundness.{times}
 use Rattle.event_machine.specs.progress.Known.{Party, Known, nobody, party, known_at_start, is_closed, is_free, is_by, is_served_by, has_callers, admits, suits, put, meet, part, complete, fall, let_go, with_server, with_callers, advanced, known_from}
 use Rattle.event_machine.proofs.progress.Parties.{known_below, put_self, put_other, all_let_go, let_go_at, idle_at, idle_length}
-use Rattle.syn_order.specs.Orders.{AreAdmitted}
+use Rattle.syn_order.specs.inner.Callers.{Serve}
 use Rattle.syn_order.proofs.Locality.{beyond, free_below}
-
--- The callers of a task are those that it serves, each once, and none serves itself.
-pub record Serve (k : Known) : Type 0 where
-  pub callers : (a c : ℕ) → times c (party k a).callers ≡ (if is_served_by a (party k c) then 1 else 0)
-  pub itself : (a : ℕ) → is_served_by a (party k a) ≡ false
 
 -- ---- writes
 
@@ -59,7 +54,7 @@ by_is a (Some b) h = ap Some (eqb-true b a h)
 served_below : (k : Known) (a c : ℕ) → is_served_by a (party k c) ≡ true → c < length k.parties
 served_below k a c h = known_below (is_served_by a) k c refl h
 
-open_below : (k : Known) (x : ℕ) → is_closed k x ≡ false → x < length k.parties
+pub open_below : (k : Known) (x : ℕ) → is_closed k x ≡ false → x < length k.parties
 open_below k x h = known_below (λ p. not p.closed) k x refl (ap not h)
 
 -- ---- what a change leaves
@@ -88,7 +83,7 @@ module _ (k : Known) (s : Serve k) (c o : ℕ) (c_free : is_free k c ≡ true) (
   met_at : (u : ℕ) → party (meet k c o) u ≡ (if u == c then with_server (Some o) (party k c) else (if u == o then with_callers (c ∷ (party k o).callers) (party k o) else party k u))
   met_at u = puts_there k o c (with_callers (c ∷ (party k o).callers) (party k o)) (with_server (Some o) (party k c)) u (free_below k o o_free) (free_below k c c_free)
 
-  met_callers : (u : ℕ) → (party (meet k c o) u).callers ≡ (if u == o then c ∷ (party k u).callers else (party k u).callers)
+  pub met_callers : (u : ℕ) → (party (meet k c o) u).callers ≡ (if u == o then c ∷ (party k u).callers else (party k u).callers)
   met_callers u = ap (λ (p : Party). p.callers) (met_at u) ∙ go (u == c) (u == o) refl refl
     where
       go : (b d : Bool) → (u == c) ≡ b → (u == o) ≡ d →
@@ -156,7 +151,7 @@ module _ (k : Known) (s : Serve k) (a c : ℕ) (cs : List ℕ) (free : is_free k
   parted_at : (u : ℕ) → party (part k a (c ∷ cs)) u ≡ (if u == c then with_server None (party k c) else (if u == a then with_callers cs (party k a) else party k u))
   parted_at u = puts_there k a c (with_callers cs (party k a)) (with_server None (party k c)) u (free_below k a free) (served_below k a c serves)
 
-  parted_callers : (u : ℕ) → (party (part k a (c ∷ cs)) u).callers ≡ (if u == a then cs else (party k u).callers)
+  pub parted_callers : (u : ℕ) → (party (part k a (c ∷ cs)) u).callers ≡ (if u == a then cs else (party k u).callers)
   parted_callers u = ap (λ (p : Party). p.callers) (parted_at u) ∙ go (u == c) (u == a) refl refl
     where
       go : (b d : Bool) → (u == c) ≡ b → (u == a) ≡ d →
@@ -211,7 +206,7 @@ module _ (k : Known) (s : Serve k) (x : ℕ) (open' : is_closed k x ≡ false) w
   let_go_callers true p = refl
   let_go_callers false p = refl
 
-  fallen_callers : (u : ℕ) → (party (fall k x) u).callers ≡ (if u == x then [] else (party k u).callers)
+  pub fallen_callers : (u : ℕ) → (party (fall k x) u).callers ≡ (if u == x then [] else (party k u).callers)
   fallen_callers u = ap (λ (p : Party). p.callers) (fallen_at u) ∙ go (u == x)
     where
       go : (b : Bool) → (if b then record { closed = true; server = (party k x).server; callers = [] } else let_go x (party k u)).callers ≡ (if◌then◌else◌ {A = List ℕ} b [] (party k u).callers)
@@ -247,12 +242,18 @@ module _ (k : Known) (s : Serve k) (x : ℕ) (open' : is_closed k x ≡ false) w
       alone u false = s.itself u
 
 -- a task completes
-serve_completed : (k : Known) (a : ℕ) → is_free k a ≡ true → Serve k → Serve (complete k a)
-serve_completed k a free s = same_serve k (complete k a) (λ u. keeps (λ (p : Party). p.callers) u refl) (λ u. keeps (λ (p : Party). p.server) u refl) s
-  where
-    keeps : {A : Type 0} (f : Party → A) (u : ℕ) → f (record { closed = true; server = (party k a).server; callers = (party k a).callers }) ≡ f (party k a) → f (party (complete k a) u) ≡ f (party k u)
-    keeps f u h = ap f (put_there k a (record { closed = true; server = (party k a).server; callers = (party k a).callers }) u (free_below k a free))
-        ∙ either_way f k a (record { closed = true; server = (party k a).server; callers = (party k a).callers }) u h
+module _ (k : Known) (a : ℕ) (free : is_free k a ≡ true) where
+  abbrev done : Party
+  done = record { closed = true; server = (party k a).server; callers = (party k a).callers }
+
+  completed_keeps : {A : Type 0} (f : Party → A) (u : ℕ) → f done ≡ f (party k a) → f (party (complete k a) u) ≡ f (party k u)
+  completed_keeps f u h = ap f (put_there k a done u (free_below k a free)) ∙ either_way f k a done u h
+
+  pub completed_callers : (u : ℕ) → (party (complete k a) u).callers ≡ (party k u).callers
+  completed_callers u = completed_keeps (λ p. p.callers) u refl
+
+  serve_completed : Serve k → Serve (complete k a)
+  serve_completed s = same_serve k (complete k a) completed_callers (λ u. completed_keeps (λ p. p.server) u refl) s
 
 -- An event that is admitted.
 pub serve_advanced : (owner : ℕ → ℕ) (k : Known) (e : Event) → admits owner k e ≡ true → Serve k → Serve (advanced owner k e)

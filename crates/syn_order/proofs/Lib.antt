@@ -4,3 +4,7 @@ pub mod Pulling
 pub mod Joining
 pub mod Carried
 pub mod Callers
+pub mod Following
+pub mod Keeping
+pub mod Touching
+pub mod Placing

@@ -1,3 +1,5 @@
 pub mod Orders
 pub mod Apart
 pub mod Laws
+pub mod Refusals
+pub mod inner
