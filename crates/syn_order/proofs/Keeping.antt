@@ -1,16 +1,18 @@
 -- The callers of each task, kept beside what is known.
-use Rattle.std.proofs.Common.{◌≡◌, ℕ, zero, suc, ◌+◌, ◌-◌, ◌<◌, ◌≤◌, Bool, true, false, not, ◌&&◌, ◌||◌, ◌==◌, if◌then◌else◌, List, [], ◌∷◌, ◌++◌, length, take, reverse, get_or, set, Option, Some, None, is_some, refl, sym, ap, ◌∙◌, subst, ⊎_elim, true≢false, length-set, arith}
+use Rattle.std.proofs.Common.{◌≡◌, ℕ, zero, suc, ◌+◌, ◌-◌, ◌<◌, ◌≤◌, Bool, true, false, not, ◌&&◌, ◌||◌, ◌==◌, if◌then◌else◌, List, [], ◌∷◌, ◌++◌, length, take, reverse, get_or, set, replicate, Option, Some, None, is_some, refl, sym, ap, ◌∙◌, subst, ⊎_elim, true≢false, length-set, arith}
 use Rattle.std.proofs.lemmas.Bool.{cases_lt, eqb-true, eqb-false, and_parts}
-use Rattle.std.proofs.lemmas.List.{get_or_past, get_or-set_same, get_or-set_other, reverse-append, reverse-reverse, length-append}
+use Rattle.std.proofs.lemmas.List.{get_or_past, get_or-set_same, get_or-set_other, reverse-append, reverse-reverse, length-append, length-replicate}
 use Rattle.std.proofs.Math.Seq.{take-append_seam}
 use Rattle.common_lemmas.proofs.Truth.{not_true}
 use Rattle.event_machine.specs.declared.Event.{Event}
 use Rattle.event_machine.specs.declared.Event.TheVariants.{R, E, S, D, C, T, F, X, B, Z}
-use Rattle.event_machine.specs.progress.Known.{Party, Known, party, is_closed, is_free, has_callers, admits, suits, put, part, complete, fall, meet, with_callers, with_server, advanced}
+use Rattle.event_machine.specs.progress.Known.{Party, Known, party, known_at_start, is_closed, is_free, has_callers, admits, suits, put, part, complete, fall, meet, with_callers, with_server, advanced}
+use Rattle.event_machine.proofs.progress.Parties.{idle_at, idle_length}
 use Rattle.syn_order.specs.inner.Lists.{at_place, put_behind}
 use Rattle.syn_order.specs.inner.Callers.{Serve, AreCallers, all_but_last, callers_after}
 use Rattle.syn_order.proofs.Locality.{beyond, free_below, advanced_length}
-use Rattle.syn_order.proofs.Callers.{met_callers, parted_callers, fallen_callers, completed_callers, open_below, serve_advanced}
+use Rattle.syn_order.proofs.Placing.{empty_at}
+use Rattle.syn_order.proofs.Callers.{met_callers, parted_callers, fallen_callers, completed_callers, open_below, serve_advanced, serve_at_start}
 
 -- ---- lists at places
 
@@ -93,3 +95,21 @@ module _ (owner : ℕ → ℕ) (k : Known) (stacks : List (List ℕ)) (h : AreCa
           fallen x true q n s = h
           fallen x false q n s = written (fall k x) x [] [] n (open_below k x q) (fallen_callers k h.serve x q) refl s
       go Z f n s = record { many = h.many; kept = h.kept; serve = s }
+
+  pub kept_by : (e : Event) (m : Known) (after : List (List ℕ)) → admits owner k e ≡ true → m ≡ advanced owner k e → after ≡ callers_after owner k e stacks → AreCallers m after
+  kept_by e m after a q r = subst (λ v. AreCallers v after) (sym q) (subst (AreCallers (advanced owner k e)) (sym r) (kept_after e a))
+
+-- before the first event no task has a caller
+pub kept_at_start : (n m : ℕ) (k : Known) (stacks : List (List ℕ)) → k ≡ known_at_start n → stacks ≡ replicate m [] → m ≡ n → AreCallers k stacks
+kept_at_start n m k stacks q r s = subst (λ v. AreCallers v stacks) (sym q) (subst (AreCallers (known_at_start n)) (sym (r ∙ ap (λ c. replicate c []) s)) start)
+  where
+    no_callers : (t : ℕ) → (party (known_at_start n) t).callers ≡ []
+    no_callers t = ⊎_elim (λ l. ap (λ (p : Party). p.callers) (idle_at n t l))
+        (λ l. ap (λ (p : Party). p.callers) (beyond (known_at_start n) t (subst (λ v. v ≤ t) (sym (idle_length n)) l))) (cases_lt t n)
+
+    start : AreCallers (known_at_start n) (replicate n [])
+    start = record {
+      many = length-replicate n [] ∙ sym (idle_length n);
+      kept = λ t. no_callers t ∙ sym (ap reverse (empty_at n t));
+      serve = serve_at_start n;
+    }

@@ -1,5 +1,5 @@
 -- Which tasks have been put among those that an event touches.
-use Rattle.std.proofs.Common.{◌≡◌, ℕ, zero, suc, ◌+◌, ◌<◌, ◌≤◌, Bool, true, false, ◌&&◌, ◌||◌, ◌==◌, ◌⊎◌, inl, inr, if◌then◌else◌, List, [], ◌∷◌, ◌++◌, length, take, reverse, get_or, refl, sym, ap, ◌∙◌, subst, true≢false, arith}
+use Rattle.std.proofs.Common.{◌≡◌, ℕ, zero, suc, ◌+◌, ◌<◌, ◌≤◌, Bool, true, false, ◌&&◌, ◌||◌, ◌==◌, ◌⊎◌, inl, inr, if◌then◌else◌, List, [], ◌∷◌, ◌++◌, length, take, reverse, get_or, refl, sym, ap, ◌∙◌, subst, ⊎_elim, true≢false, arith}
 use Rattle.std.specs.Prelude.{nat_lt}
 use Rattle.std.proofs.lemmas.Bool.{eqb-true, eqb-false, lt-ltb, le-ltb, cases_lt}
 use Rattle.std.proofs.lemmas.List.{take_more, reverse-append}
@@ -78,48 +78,57 @@ no_others u a b n w = go ((u == a) || (u == b)) w
     go false true = omega arith
     go false false = omega arith
 
--- a caller goes in
-pub other_more : (u : ℕ) (callers : List ℕ) (i d old now new a b count : ℕ) → i < length callers → (get_or callers i d == a) ≡ false → (get_or callers i d == b) ≡ false →
-    now ≡ old + other_times u a b (nat_lt u count) (take i callers) → new ≡ now + one ((u == get_or callers i d) && nat_lt u count) →
-    new ≡ old + other_times u a b (nat_lt u count) (take (i + 1) callers)
-other_more u callers i d old now new a b count l p q h g = go (u == a) (u == b) (nat_lt u count) (u == get_or callers i d) refl refl refl h g
+-- a task that is one of the two does not go in
+pub other_out : (u n c a b : ℕ) (w : Bool) → (c ≡ a) ⊎ (c ≡ b) → n ≡ n + (if ((u == a) || (u == b)) then 0 else one ((u == c) && w))
+other_out u n c a b w o = go (u == a) (u == b) (u == c) w refl refl refl
   where
-    longer : times u (take (i + 1) callers) ≡ times u (take i callers) + one (get_or callers i d == u)
-    longer = ap (times u) (take_more callers i d l) ∙ times_last u (take i callers) (get_or callers i d)
+    same_test : (d : ℕ) → c ≡ d → (u == c) ≡ (u == d)
+    same_test d q = ap (λ v. u == v) q
 
-    go : (x y w z : Bool) → (u == a) ≡ x → (u == b) ≡ y → (u == get_or callers i d) ≡ z → now ≡ old + (if (x || y) then 0 else (if w then times u (take i callers) else 0)) →
-        new ≡ now + one (z && w) → new ≡ old + (if (x || y) then 0 else (if w then times u (take (i + 1) callers) else 0))
-    go true y w true r s t h g = absurd (true≢false (sym (subst (λ v. (v == a) ≡ true) (eqb-true u (get_or callers i d) t) r) ∙ p))
-    go true y w false r s t h g = omega (arith, h, g)
-    go false true w true r s t h g = absurd (true≢false (sym (subst (λ v. (v == b) ≡ true) (eqb-true u (get_or callers i d) t) s) ∙ q))
-    go false true w false r s t h g = omega (arith, h, g)
-    go false false true true r s t h g =
-        let e : one (get_or callers i d == u) ≡ 1 = ap one (ap (λ v. get_or callers i d == v) (eqb-true u (get_or callers i d) t) ∙ equal_self (get_or callers i d)) in
-        omega (arith, h, g, longer, e)
-    go false false true false r s t h g =
-        let e : one (get_or callers i d == u) ≡ 0 = ap one (unequal_turned u (get_or callers i d) t) in
-        omega (arith, h, g, longer, e)
-    go false false false true r s t h g = omega (arith, h, g)
-    go false false false false r s t h g = omega (arith, h, g)
+    go : (x y z w : Bool) → (u == a) ≡ x → (u == b) ≡ y → (u == c) ≡ z → n ≡ n + (if (x || y) then 0 else one (z && w))
+    go true y z w p q r = omega arith
+    go false true z w p q r = omega arith
+    go false false true w p q r = ⊎_elim (λ s. absurd (true≢false (sym r ∙ same_test a s ∙ p))) (λ s. absurd (true≢false (sym r ∙ same_test b s ∙ q))) o
+    go false false false w p q r = omega arith
 
--- a caller that is one of the two does not
-pub other_skipped : (u : ℕ) (callers : List ℕ) (i d old now new a b count : ℕ) → i < length callers → ((get_or callers i d == a) ≡ true) ⊎ ((get_or callers i d == b) ≡ true) →
-    now ≡ old + other_times u a b (nat_lt u count) (take i callers) → new ≡ now → new ≡ old + other_times u a b (nat_lt u count) (take (i + 1) callers)
-other_skipped u callers i d old now new a b count l o h g = go (u == a) (u == b) (nat_lt u count) refl refl h
+pub other_in : (u old new c a b : ℕ) (w : Bool) → (c ≡ a → ⊥) → (c ≡ b → ⊥) → new ≡ old + one ((u == c) && w) → new ≡ old + (if ((u == a) || (u == b)) then 0 else one ((u == c) && w))
+other_in u old new c a b w p q h = go (u == a) (u == b) (u == c) w refl refl refl h
   where
-    longer : times u (take (i + 1) callers) ≡ times u (take i callers) + one (get_or callers i d == u)
-    longer = ap (times u) (take_more callers i d l) ∙ times_last u (take i callers) (get_or callers i d)
+    go : (x y z w : Bool) → (u == a) ≡ x → (u == b) ≡ y → (u == c) ≡ z → new ≡ old + one (z && w) → new ≡ old + (if (x || y) then 0 else one (z && w))
+    go true y true w r s t h = absurd (p (sym (eqb-true u c t) ∙ eqb-true u a r))
+    go true y false w r s t h = h
+    go false true true w r s t h = absurd (q (sym (eqb-true u c t) ∙ eqb-true u b s))
+    go false true false w r s t h = h
+    go false false z w r s t h = h
 
-    not_it : ((get_or callers i d == a) ≡ true) ⊎ ((get_or callers i d == b) ≡ true) → (u == a) ≡ false → (u == b) ≡ false → (get_or callers i d == u) ≡ false
-    not_it (inl p) r s = ap (λ v. v == u) (eqb-true (get_or callers i d) a p) ∙ unequal_turned u a r
-    not_it (inr p) r s = ap (λ v. v == u) (eqb-true (get_or callers i d) b p) ∙ unequal_turned u b s
+-- one caller more
+pub other_more : (u : ℕ) (callers : List ℕ) (i d old now new a b count : ℕ) → i < length callers → now ≡ old + other_times u a b (nat_lt u count) (take i callers) →
+    new ≡ now + (if ((u == a) || (u == b)) then 0 else one ((u == get_or callers i d) && nat_lt u count)) → new ≡ old + other_times u a b (nat_lt u count) (take (i + 1) callers)
+other_more u callers i d old now new a b count l h g = go ((u == a) || (u == b)) (nat_lt u count) h g
+  where
+    turned : (x y : ℕ) → one (x == y) ≡ one (y == x)
+    turned x y = at (x == y) refl
+      where
+        at : (z : Bool) → (x == y) ≡ z → one z ≡ one (y == x)
+        at true q = sym (ap one (ap (λ v. y == v) (eqb-true x y q) ∙ equal_self y))
+        at false q = sym (ap one (unequal_turned x y q))
 
-    go : (x y w : Bool) → (u == a) ≡ x → (u == b) ≡ y → now ≡ old + (if (x || y) then 0 else (if w then times u (take i callers) else 0)) →
-        new ≡ old + (if (x || y) then 0 else (if w then times u (take (i + 1) callers) else 0))
-    go true y w r s h = g ∙ h
-    go false true w r s h = g ∙ h
-    go false false true r s h = let e : one (get_or callers i d == u) ≡ 0 = ap one (not_it o r s) in omega (arith, h, g, longer, e)
-    go false false false r s h = g ∙ h
+    longer : times u (take (i + 1) callers) ≡ times u (take i callers) + one (u == get_or callers i d)
+    longer = ap (times u) (take_more callers i d l) ∙ times_last u (take i callers) (get_or callers i d) ∙ ap (λ m. times u (take i callers) + m) (turned (get_or callers i d) u)
+
+    go : (x w : Bool) → now ≡ old + (if x then 0 else (if w then times u (take i callers) else 0)) → new ≡ now + (if x then 0 else one ((u == get_or callers i d) && w)) →
+        new ≡ old + (if x then 0 else (if w then times u (take (i + 1) callers) else 0))
+    go true w h g = omega (arith, h, g)
+    go false true h g = fits (u == get_or callers i d) longer g
+      where
+        fits : (z : Bool) → times u (take (i + 1) callers) ≡ times u (take i callers) + one z → new ≡ now + one (z && true) → new ≡ old + times u (take (i + 1) callers)
+        fits true k g = omega (arith, h, k, g)
+        fits false k g = omega (arith, h, k, g)
+    go false false h g = none (u == get_or callers i d) g
+      where
+        none : (z : Bool) → new ≡ now + one (z && false) → new ≡ old + 0
+        none true g = omega (arith, h, g)
+        none false g = omega (arith, h, g)
 
 -- ---- all tasks
 
@@ -176,6 +185,7 @@ module _ (owner : ℕ → ℕ) (k : Known) (stacks : List (List ℕ)) (h : AreCa
       go true b false v = refl
       go false true true v = refl
       go false true false v = refl
-      go false false true v = let n : ℕ = one v in omega arith
+      go false false true true = refl
+      go false false true false = refl
       go false false false true = refl
       go false false false false = refl

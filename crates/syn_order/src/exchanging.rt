@@ -1,7 +1,7 @@
 // Neighbours that can be exchanged.
 
-ghost use Rattle.std.specs.Prelude.{◌≡◌, ◌+◌, ◌<◌, ◌≤◌, ◌^◌, ◌↔◌, true, false, length, take, IfOk, IfErr, OnOk, IsTrue};
-ghost use Rattle.event_machine.specs.progress.Known.{known_at_start, admits, advanced};
+ghost use Rattle.std.specs.Prelude.{◌≡◌, ◌+◌, ◌<◌, ◌≤◌, ◌^◌, ◌&&◌, ◌↔◌, true, false, length, take, IfOk, IfErr, OnOk, IsTrue};
+ghost use Rattle.event_machine.specs.progress.Known.{known_at_start, known, admits, advanced, touches};
 ghost use Rattle.syn_event.specs.Numbering.{owner_of};
 ghost use Rattle.syn_order.specs.declared.errors.OrderError.TheVariants.{NotAdmitted};
 ghost use Rattle.syn_order.specs.Orders.{AreAdmitted};
@@ -46,17 +46,28 @@ fn last_apart(
     ensures apart { IfOk result (λ answer. IsTrue answer ↔ AreNeighboursApart (owner_of numbers.now) (length numbers.now.tasks) events.now k) }
     ensures refused { IfErr result (λ error. IsSplitError (owner_of numbers.now) (length numbers.now.tasks) events.now error) }
 {
+    let place = k as usize - 1;
+    let mut progress = follow(alloc, &events[..place], numbers)?;
+    let apart = are_apart(&progress, &events[place], &events[place + 1], numbers);
+    go_on(&mut progress, &events[place], k, numbers)?;
+    go_on(&mut progress, &events[place + 1], k + 1, numbers)?;
+    Ok(apart)
+}
+
+// What is known after the events, if all are admitted.
+fn follow(alloc: Global, events: &[Event], numbers: &Numbers) -> Result<Progress, OrderError>
+    requires { length events.now < 2 ^ 32 }
+    ensures admitted { IfOk result (λ progress. AreAdmitted (owner_of numbers.now) (known_at_start (length numbers.now.tasks)) events.now) }
+    ensures known { IfOk result (λ progress. progress ≡ known (owner_of numbers.now) (length numbers.now.tasks) events.now) }
+    ensures refused { IfErr result (λ error. IsSplitError (owner_of numbers.now) (length numbers.now.tasks) events.now error) }
+{
     let mut progress = Progress::new(alloc, numbers)?;
-    let mut apart = false;
-    let mut at = 0;
+    let mut at: u32 = 0;
     for e in events {
         at += 1;
-        if at == k {
-            apart = are_apart(&progress, e, &events[k as usize], numbers);
-        }
         go_on(&mut progress, e, at, numbers)?;
     }
-    Ok(apart)
+    Ok(progress)
 }
 
 // Goes on by the event at this place, from 1, if it is admitted.
@@ -79,9 +90,16 @@ fn are_apart(progress: &Progress, e: &Event, f: &Event, numbers: &Numbers) -> bo
 {
     let count = numbers.tasks.as_slice().len() as u32;
     for t in 0..count {
-        if progress.touches(e, numbers, t) && progress.touches(f, numbers, t) {
+        if is_shared(progress, e, f, numbers, t) {
             return false;
         }
     }
     true
+}
+
+// Whether the task is touched by both events.
+fn is_shared(progress: &Progress, e: &Event, f: &Event, numbers: &Numbers, t: u32) -> bool
+    ensures { result ≡ (touches (owner_of numbers.now) progress.now e.now t && touches (owner_of numbers.now) progress.now f.now t) }
+{
+    progress.touches(e, numbers, t) && progress.touches(f, numbers, t)
 }

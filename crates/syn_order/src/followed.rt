@@ -148,10 +148,10 @@ fn innermost_or(callers: &[u32], d: u32) -> u32
 fn put_one(touched: &mut Vec<u32>, t: u32, count: u32) -> Result<(), Memory>
     ensures { OnOk result ((u : ℕ) → times u touched.new.items ≡ times u touched.old.items + (if (u == t) && nat_lt u count then 1 else 0)) }
 {
-    if t < count {
-        touched.push(t)?;
+    if t >= count {
+        return Ok(());
     }
-    Ok(())
+    Ok(touched.push(t)?)
 }
 
 // Two tasks, which may be one.
@@ -165,14 +165,31 @@ fn put_two(touched: &mut Vec<u32>, a: u32, b: u32, count: u32) -> Result<(), Mem
     put_one(touched, b, count)
 }
 
+// A task but these two.
+fn put_other(touched: &mut Vec<u32>, c: u32, a: u32, b: u32, count: u32) -> Result<(), Memory>
+    ensures { OnOk result ((u : ℕ) → times u touched.new.items ≡ times u touched.old.items + (if ((u == a) || (u == b)) then 0 else (if (u == c) && nat_lt u count then 1 else 0))) }
+{
+    if c == a {
+        return Ok(());
+    }
+    if c == b {
+        return Ok(());
+    }
+    put_one(touched, c, count)
+}
+
 // The callers but these two.
-fn put_others(touched: &mut Vec<u32>, callers: &[u32], a: u32, b: u32, count: u32) -> Result<(), Memory>
+fn put_others(
+    touched: &mut Vec<u32>,
+    callers: &[u32],
+    a: u32,
+    b: u32,
+    count: u32,
+) -> Result<(), Memory>
     ensures { OnOk result ((u : ℕ) → times u touched.new.items ≡ times u touched.old.items + (if ((u == a) || (u == b)) then 0 else (if nat_lt u count then times u callers.now else 0))) }
 {
     for c in callers {
-        if *c != a && *c != b {
-            put_one(touched, *c, count)?;
-        }
+        put_other(touched, *c, a, b, count)?;
     }
     Ok(())
 }
