@@ -12,7 +12,7 @@ use Rattle.syn_order.specs.Orders.{AreAdmitted, split, splits, list_at, left_aft
 use Rattle.syn_order.specs.Apart.{AreAlike}
 use Rattle.syn_order.specs.Laws.{IsOrder, NoOrder, IsSource, LawOfOrders, OrdersOfAll, SameListsAreAlike}
 use Rattle.syn_order.proofs.Pulling.{alike_by_lists, lists_of_alike, HasSameLists}
-use Rattle.syn_order.proofs.Joining.{total, joined, joined_back, SplitsBack, used_up_over, over_once, stuck_over, join_or}
+use Rattle.syn_order.proofs.Picking.{total, joined, joined_back, SplitsBack, used_up_over, over_once, stuck_over, join_or}
 
 -- ---- lists of lists
 
