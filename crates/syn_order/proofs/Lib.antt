@@ -1,0 +1,13 @@
+pub mod Locality
+pub mod Apart
+pub mod Pulling
+pub mod Picking
+pub mod Carried
+pub mod Callers
+pub mod Following
+pub mod Keeping
+pub mod Touching
+pub mod Placing
+pub mod Dealing
+pub mod Neighbours
+pub mod exchange

@@ -1,0 +1,68 @@
+-- Neighbours in a list of events.
+use Rattle.std.proofs.Common.{◌≡◌, ℕ, zero, suc, ◌+◌, ◌-◌, ◌<◌, ◌≤◌, Bool, true, false, ◌&&◌, ◌⊎◌, inl, inr, List, [], ◌∷◌, ◌++◌, length, get_or, take, drop, refl, sym, ap, ◌∙◌, subst, ⊎_elim, true≢false, arith}
+use Rattle.std.specs.Prelude.{◌↔◌, IsTrue}
+use Rattle.std.proofs.lemmas.Bool.{cases_order}
+use Rattle.std.proofs.lemmas.List.{get_or-take, take-take, length-take, take_all}
+use Rattle.event_machine.specs.declared.Event.{Event}
+use Rattle.event_machine.specs.declared.Event.TheVariants.{Z}
+use Rattle.event_machine.specs.progress.Known.{Known, known_at_start, known, admits, advanced, touches}
+use Rattle.syn_order.specs.declared.errors.OrderError.{OrderError}
+use Rattle.syn_order.specs.declared.errors.OrderError.TheVariants.{NotAdmitted, NoOrder, Memory}
+use Rattle.syn_order.specs.Orders.{AreAdmitted}
+use Rattle.syn_order.specs.Apart.{AreApart}
+use Rattle.syn_order.specs.Refusals.{IsFirstRefused, IsSplitError, AreNeighboursApart}
+use Rattle.syn_order.proofs.Following.{admitted_further, known_further, refused_there}
+
+-- ---- whether two events are apart
+
+pub apart_further : (f : ℕ → Bool) (t : ℕ) → ((u : ℕ) → u < t → f u ≡ false) → f t ≡ false → (u : ℕ) → u < t + 1 → f u ≡ false
+apart_further f t h q u l = go (cases_order u t)
+  where
+    go : ((u ≡ t) ⊎ ((u < t) ⊎ (t < u))) → f u ≡ false
+    go (inl p) = ap f p ∙ q
+    go (inr (inl m)) = h u m
+    go (inr (inr m)) = absurd (omega (arith, l, m))
+
+pub apart_at_end : (f : ℕ → Bool) (n t : ℕ) → n ≤ t → ((u : ℕ) → u < t → f u ≡ false) → IsTrue true ↔ ((u : ℕ) → u < n → f u ≡ false)
+apart_at_end f n t m h = (λ q u l. h u (omega (arith, l, m)), λ q. refl)
+
+pub not_apart : (f : ℕ → Bool) (n t : ℕ) → t < n → f t ≡ true → IsTrue false ↔ ((u : ℕ) → u < n → f u ≡ false)
+not_apart f n t m h = (λ q. absurd (true≢false (sym q)), λ q. absurd (true≢false (sym h ∙ q t m)))
+
+-- ---- a front of the events
+
+-- what is refused in a front is refused
+pub refused_longer : (owner : ℕ → ℕ) (n m : ℕ) (events : List Event) (error : OrderError) → m ≤ length events → IsSplitError owner n (take m events) error → IsSplitError owner n events error
+refused_longer owner n m events (NotAdmitted at) l h = record {
+  from_one = h.from_one;
+  within = let w = h.within in omega (arith, w, l, count);
+  before = subst (AreAdmitted owner (known_at_start n)) (take-take (at - 1) m events (let w = h.within in omega (arith, w, count))) h.before;
+  refused = λ a. h.refused (subst (AreAdmitted owner (known_at_start n)) (sym (take-take at m events (let w = h.within in omega (arith, w, count)))) a);
+}
+  where
+    count : length (take m events) ≡ m
+    count = length-take m events l
+refused_longer owner n m events (NoOrder task) l h = h
+refused_longer owner n m events Memory l h = h
+
+module _ (owner : ℕ → ℕ) (n : ℕ) (events : List Event) (k : ℕ) where
+  -- neighbours in a front
+  pub same_neighbours : 1 ≤ k → AreNeighboursApart owner n (take (k + 1) events) k ≡ AreNeighboursApart owner n events k
+  same_neighbours l = λ j. AreApart owner n (known owner n (front j)) (one j) (two j)
+    where
+      front : take (k - 1) (take (k + 1) events) ≡ take (k - 1) events
+      front = take-take (k - 1) (k + 1) events (omega arith)
+
+      one : get_or (take (k + 1) events) (k - 1) Z ≡ get_or events (k - 1) Z
+      one = get_or-take (k + 1) events (k - 1) Z (omega arith)
+
+      two : get_or (take (k + 1) events) k Z ≡ get_or events k Z
+      two = get_or-take (k + 1) events k Z (omega arith)
+
+-- ---- the last two
+
+-- the answer of one event that is not admitted
+pub refused_error : (owner : ℕ → ℕ) (n : ℕ) (events : List Event) (i : ℕ) (d : Event) (k : Known) (error : OrderError) (at : ℕ) → i < length events → k ≡ known owner n (take i events) →
+    AreAdmitted owner (known_at_start n) (take i events) → at ≡ i + 1 → error ≡ NotAdmitted at → admits owner k (get_or events i d) ≡ false → IsSplitError owner n events error
+refused_error owner n events i d k error at l q a p e h =
+    subst (IsSplitError owner n events) (sym (e ∙ ap NotAdmitted p)) (refused_there owner n events i d l k q a h)

@@ -1,0 +1,6 @@
+use Rattle.std.proofs.Common.{[], ◌∷◌, ◌++◌, ap, ◌∙◌}
+use Rattle.syn_order.proofs.Placing.{replicate_more}
+use Rattle.syn_order.proofs.lists.no_callers.Goals as goal
+
+pub loop-place-preserved : goal.loop-place-preserved
+loop-place-preserved c = c.in_ok-add_no_callers.ensures ∙ ap (λ ls. ls ++ [] ∷ []) c.loop-place.invariant ∙ replicate_more c.loop-place.place []

@@ -1,0 +1,5 @@
+pub mod Steps
+pub mod Verdicts
+pub mod Shown
+pub mod Laws
+pub mod Example

@@ -1,0 +1,15 @@
+//! Sequences of events by tasks: the lists into which a sequence splits, the sequence into which lists join, and neighbours that can be exchanged.
+#![tactic(auto)]
+
+mod errors;
+mod exchanging;
+mod followed;
+pub mod laws;
+mod lists;
+mod splitting;
+mod task_lists;
+
+pub use errors::OrderError;
+pub use exchanging::exchangeable;
+pub use splitting::split;
+pub use task_lists::TaskLists;
