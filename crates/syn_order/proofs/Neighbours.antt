@@ -2,7 +2,7 @@
 use Rattle.std.proofs.Common.{◌≡◌, ℕ, zero, suc, ◌+◌, ◌-◌, ◌<◌, ◌≤◌, Bool, true, false, ◌&&◌, ◌⊎◌, inl, inr, List, [], ◌∷◌, ◌++◌, length, get_or, take, drop, refl, sym, ap, ◌∙◌, subst, ⊎_elim, true≢false, arith}
 use Rattle.std.specs.Prelude.{◌↔◌, IsTrue}
 use Rattle.std.proofs.lemmas.Bool.{cases_order}
-use Rattle.std.proofs.lemmas.List.{get_or-take, take-take, length-take, take_all}
+use Rattle.std.proofs.lemmas.List.{get_or-take, take-take, length-take-le, take_all}
 use Rattle.event_machine.specs.declared.Event.{Event}
 use Rattle.event_machine.specs.declared.Event.TheVariants.{Z}
 use Rattle.event_machine.specs.progress.Known.{Known, known_at_start, known, admits, advanced, touches}
@@ -41,7 +41,7 @@ refused_longer owner n m events (NotAdmitted at) l h = record {
 }
   where
     count : length (take m events) ≡ m
-    count = length-take m events l
+    count = length-take-le m events l
 refused_longer owner n m events (NoOrder task) l h = h
 refused_longer owner n m events Memory l h = h
 
@@ -66,3 +66,46 @@ pub refused_error : (owner : ℕ → ℕ) (n : ℕ) (events : List Event) (i : �
     AreAdmitted owner (known_at_start n) (take i events) → at ≡ i + 1 → error ≡ NotAdmitted at → admits owner k (get_or events i d) ≡ false → IsSplitError owner n events error
 refused_error owner n events i d k error at l q a p e h =
     subst (IsSplitError owner n events) (sym (e ∙ ap NotAdmitted p)) (refused_there owner n events i d l k q a h)
+
+-- the same, or want of memory
+pub refused_or : (owner : ℕ → ℕ) (n : ℕ) (events : List Event) (i : ℕ) (d : Event) (k : Known) (error : OrderError) (at : ℕ) → i < length events → k ≡ known owner n (take i events) →
+    AreAdmitted owner (known_at_start n) (take i events) → at ≡ i + 1 → (error ≡ Memory) ⊎ (error ≡ NotAdmitted at) → admits owner k (get_or events i d) ≡ false → IsSplitError owner n events error
+refused_or owner n events i d k error at l q a p o h =
+    ⊎_elim (λ m. subst (IsSplitError owner n events) (sym m) tt) (λ m. refused_error owner n events i d k error at l q a p m h) o
+
+-- ---- the last two events
+
+module _ (owner : ℕ → ℕ) (n : ℕ) (events : List Event) (i : ℕ) (count : length events ≡ i + 2) (k : Known) (is_known : k ≡ known owner n (take i events))
+    (before : AreAdmitted owner (known_at_start n) (take i events)) where
+  pub last_but_one_refused : (d : Event) (error : OrderError) (at : ℕ) → at ≡ i + 1 → error ≡ NotAdmitted at → admits owner k (get_or events i d) ≡ false → IsSplitError owner n events error
+  last_but_one_refused d error at p e h = refused_error owner n events i d k error at (omega (arith, count)) is_known before p e h
+
+  module _ (d : Event) (m : Known) (next : m ≡ advanced owner k (get_or events i d)) (first : admits owner k (get_or events i d) ≡ true) where
+    then : AreAdmitted owner (known_at_start n) (take (i + 1) events)
+    then = admitted_further owner n events i d (omega (arith, count)) k is_known before first
+
+    then_known : m ≡ known owner n (take (i + 1) events)
+    then_known = known_further owner n events i d (omega (arith, count)) k is_known before m next
+
+    pub last_refused : (c : Event) (error : OrderError) (at : ℕ) → at ≡ i + 2 → error ≡ NotAdmitted at → admits owner m (get_or events (i + 1) c) ≡ false → IsSplitError owner n events error
+    last_refused c error at p e h =
+        refused_error owner n events (i + 1) c m error at (omega (arith, count)) then_known then (omega (arith, p)) e h
+
+    pub last_admitted : (c : Event) → admits owner m (get_or events (i + 1) c) ≡ true → AreAdmitted owner (known_at_start n) events
+    last_admitted c h = subst (AreAdmitted owner (known_at_start n)) (take_all (i + 1 + 1) events (omega (arith, count)))
+        (admitted_further owner n events (i + 1) c (omega (arith, count)) m then_known then h)
+
+  pub last_apart_iff : (K : ℕ) (d c : Event) (x : Bool) → K ≡ i + 1 → (IsTrue x ↔ AreApart owner n k (get_or events i d) (get_or events (i + 1) c)) → IsTrue x ↔ AreNeighboursApart owner n events K
+  last_apart_iff K d c x q h = subst (λ v. IsTrue x ↔ AreNeighboursApart owner n events v) (sym q) (subst (λ (P : Type 0). IsTrue x ↔ P) same h)
+    where
+      less : i + 1 - 1 ≡ i
+      less = omega arith
+
+      any : (xs : List Event) (j : ℕ) (a b : Event) → j < length xs → get_or xs j a ≡ get_or xs j b
+      any [] j a b l = absurd (omega (arith, l))
+      any (x ∷ xs) zero a b l = refl
+      any (x ∷ xs) (suc j) a b l = any xs j a b (omega (arith, l))
+
+      same : AreApart owner n k (get_or events i d) (get_or events (i + 1) c) ≡ AreNeighboursApart owner n events (i + 1)
+      same = λ j. AreApart owner n ((is_known ∙ ap (λ v. known owner n (take v events)) (sym less)) j)
+          ((any events i d Z (omega (arith, count)) ∙ ap (λ v. get_or events v Z) (sym less)) j) (any events (i + 1) c Z (omega (arith, count)) j)
