@@ -1,6 +1,7 @@
 -- Neighbours in a list of events.
 use Rattle.std.proofs.Common.{◌≡◌, ℕ, zero, suc, ◌+◌, ◌-◌, ◌<◌, ◌≤◌, Bool, true, false, ◌&&◌, ◌⊎◌, inl, inr, List, [], ◌∷◌, ◌++◌, length, get_or, take, drop, refl, sym, ap, ◌∙◌, subst, ⊎_elim, true≢false, arith}
-use Rattle.std.specs.Prelude.{◌↔◌, IsTrue}
+use Rattle.std.specs.Prelude.{◌↔◌, IsTrue, IsErrAnd, IfErr}
+use Rattle.std.proofs.Common.{Result, Ok, Err}
 use Rattle.std.proofs.lemmas.Bool.{cases_order}
 use Rattle.std.proofs.lemmas.List.{get_or-take, take-take, length-take-le, take_all}
 use Rattle.event_machine.specs.declared.Event.{Event}
@@ -59,6 +60,9 @@ module _ (owner : ℕ → ℕ) (n : ℕ) (events : List Event) (k : ℕ) where
       two : get_or (take (k + 1) events) k Z ≡ get_or events k Z
       two = get_or-take (k + 1) events k Z (omega arith)
 
+  pub same_apart : 1 ≤ k → (x : Bool) → (IsTrue x ↔ AreNeighboursApart owner n (take (k + 1) events) k) → IsTrue x ↔ AreNeighboursApart owner n events k
+  same_apart l x h = subst (λ (P : Type 0). IsTrue x ↔ P) (same_neighbours l) h
+
 -- ---- the last two
 
 -- the answer of one event that is not admitted
@@ -109,3 +113,8 @@ module _ (owner : ℕ → ℕ) (n : ℕ) (events : List Event) (i : ℕ) (count 
       same : AreApart owner n k (get_or events i d) (get_or events (i + 1) c) ≡ AreNeighboursApart owner n events (i + 1)
       same = λ j. AreApart owner n ((is_known ∙ ap (λ v. known owner n (take v events)) (sym less)) j)
           ((any events i d Z (omega (arith, count)) ∙ ap (λ v. get_or events v Z) (sym less)) j) (any events (i + 1) c Z (omega (arith, count)) j)
+
+-- an error that is passed on
+pub passed_on : {A E : Type 0} (r : Result A E) (e : E) (P : E → Type 0) → IsErrAnd r (λ f. f ≡ e) → P e → IfErr r P
+passed_on (Ok x) e P h p = absurd h
+passed_on (Err f) e P h p = subst P (sym h) p
