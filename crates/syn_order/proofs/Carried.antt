@@ -91,9 +91,11 @@ orders_of_all owner n lists count = law owner n lists count
 
 pub same_lists_are_alike : SameListsAreAlike
 same_lists_are_alike owner n xs ys some a = (
-    λ h. alike_by_lists owner n some ys (known_at_start n) xs (idle_length n) a h.0
-        (λ t l. by_splits owner n (known_at_start n) xs (splits owner n (known_at_start n) ys) h.1 t l ∙ split_at owner n (known_at_start n) ys t l),
-    λ h. let r = lists_of_alike owner n some (known_at_start n) xs ys h (idle_length n) a in
-        (r.admitted, splits_by owner n (known_at_start n) xs (splits owner n (known_at_start n) ys) (splits_length owner n (known_at_start n) ys)
-            (λ t l. r.lists t l ∙ sym (split_at owner n (known_at_start n) ys t l))),
-  )
+  λ h. alike_by_lists owner n some ys (known_at_start n) xs (idle_length n) a h.0
+      (λ t l. by_splits owner n (known_at_start n) xs (splits owner n (known_at_start n) ys) h.1 t l ∙ split_at owner n (known_at_start n) ys t l),
+  λ h. let r = lists_of_alike owner n some (known_at_start n) xs ys h (idle_length n) a in (
+    r.admitted,
+    splits_by owner n (known_at_start n) xs (splits owner n (known_at_start n) ys) (splits_length owner n (known_at_start n) ys)
+        (λ t l. r.lists t l ∙ sym (split_at owner n (known_at_start n) ys t l)),
+  ),
+)

@@ -40,7 +40,7 @@ put_further old now new tasks i d e u l m h g =
     ap (λ ls. at_place ls u) g ∙ put_at now (get_or tasks i d) e u m ∙ ap (λ xs. xs ++ replicate (one (get_or tasks i d == u)) e) h
     ∙ append_assoc (at_place old u) (replicate (times u (take i tasks)) e) (replicate (one (get_or tasks i d == u)) e)
     ∙ ap (λ xs. at_place old u ++ xs) (replicate_joined (times u (take i tasks)) (one (get_or tasks i d == u)) e
-        ∙ ap (λ k. replicate k e) (sym (ap (times u) (take_more tasks i d l) ∙ times_last u (take i tasks) (get_or tasks i d))))
+    ∙ ap (λ k. replicate k e) (sym (ap (times u) (take_more tasks i d l) ∙ times_last u (take i tasks) (get_or tasks i d))))
 
 -- one event more is split
 pub split_further : (owner : ℕ → ℕ) (n : ℕ) (events : List Event) (i : ℕ) (d : Event) (k : Known) (now new : List (List Event)) (touched given : List ℕ) → i < length events → given ≡ touched →
@@ -51,7 +51,7 @@ pub split_further : (owner : ℕ → ℕ) (n : ℕ) (events : List Event) (i : �
 split_further owner n events i d k now new touched given l same q s t h g u m =
     g u m ∙ ap (λ ts. at_place now u ++ replicate (times u ts) (get_or events i d)) same ∙ ap (λ xs. xs ++ replicate (times u touched) (get_or events i d)) (h u m)
     ∙ ap (λ xs. split owner (known_at_start n) (take i events) u ++ xs) (ap (λ c. replicate c (get_or events i d)) (t u ∙ ap (λ b. one (touches owner k (get_or events i d) u && b)) (lt_true u (length k.parties) (subst (λ v. u < v) (sym s) m)))
-        ∙ as_list (touches owner k (get_or events i d) u) ∙ ap (λ v. if touches owner v (get_or events i d) u then (get_or events i d) ∷ [] else []) q)
+    ∙ as_list (touches owner k (get_or events i d) u) ∙ ap (λ v. if touches owner v (get_or events i d) u then (get_or events i d) ∷ [] else []) q)
     ∙ sym (ap (λ xs. split owner (known_at_start n) xs u) (take_more events i d l) ∙ split_last owner (known_at_start n) (take i events) (get_or events i d) u)
   where
     as_list : (b : Bool) → replicate (one (b && true)) (get_or events i d) ≡ (if b then get_or events i d ∷ [] else [])

@@ -68,8 +68,8 @@ module _ (owner : ℕ → ℕ) (k : Known) (stacks : List (List ℕ)) (h : AreCa
           let more = and_parts (is_free k c) (is_free k (owner e) && not (c == owner e)) f in
           let last = and_parts (is_free k (owner e)) (not (c == owner e)) more.1 in
           written (meet k c (owner e)) (owner e) (at_place stacks (owner e) ++ c ∷ []) (c ∷ (party k (owner e)).callers) n (free_below k (owner e) last.0)
-              (λ u. met_callers k h.serve c (owner e) more.0 last.0 (not_true (c == owner e) last.1) u ∙ there c (owner e) u (u == owner e) refl)
-              (ap (λ cs. c ∷ cs) (h.kept (owner e)) ∙ sym (reverse_last (at_place stacks (owner e)) c)) s
+          (λ u. met_callers k h.serve c (owner e) more.0 last.0 (not_true (c == owner e) last.1) u ∙ there c (owner e) u (u == owner e) refl)
+          (ap (λ cs. c ∷ cs) (h.kept (owner e)) ∙ sym (reverse_last (at_place stacks (owner e)) c)) s
         where
           there : (c o u : ℕ) (b : Bool) → (u == o) ≡ b → (if b then c ∷ (party k u).callers else (party k u).callers) ≡ (if b then c ∷ (party k o).callers else (party k u).callers)
           there c o u true q = ap (λ v. c ∷ (party k v).callers) (eqb-true u o q)
@@ -81,7 +81,7 @@ module _ (owner : ℕ → ℕ) (k : Known) (stacks : List (List ℕ)) (h : AreCa
           parted a [] q free some n s = absurd (true≢false (sym some))
           parted a (c ∷ cs) q free some n s =
               written (part k a (c ∷ cs)) a (all_but_last (at_place stacks a)) cs n (free_below k a free) (parted_callers k h.serve a c cs free q)
-                  (sym (rest_reverse (at_place stacks a) c cs (sym (h.kept a) ∙ q))) s
+              (sym (rest_reverse (at_place stacks a) c cs (sym (h.kept a) ∙ q))) s
       go (S a) f n s = h
       go (D a m) f n s = h
       go (C c e i) f n s = h

@@ -10,3 +10,4 @@ pub mod Touching
 pub mod Placing
 pub mod Dealing
 pub mod Neighbours
+pub mod Taking
