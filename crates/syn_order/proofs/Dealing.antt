@@ -1,12 +1,11 @@
 -- Events put behind the lists of the tasks that they touch.
-use Rattle.std.proofs.Common.{◌≡◌, ℕ, zero, suc, ◌+◌, ◌<◌, ◌≤◌, Bool, true, false, ◌&&◌, ◌==◌, if◌then◌else◌, List, [], ◌∷◌, ◌++◌, length, get_or, take, set, replicate, refl, sym, ap, ◌∙◌, subst, append_assoc, arith}
-use Rattle.std.specs.Prelude.{nat_lt}
+use Rattle.std.proofs.Common.{◌≡◌, ℕ, zero, suc, ◌+◌, ◌<◌, ◌≤◌, Bool, true, false, ◌&&◌, ◌==◌, if◌then◌else◌, List, [], ◌∷◌, ◌++◌, length, get_or, take, replicate, refl, sym, ap, ◌∙◌, subst, append_assoc, arith}
 use Rattle.std.proofs.lemmas.Bool.{eqb-true, eqb-false}
 use Rattle.std.proofs.lemmas.List.{take_more, take_all, append-nil, get_or-set_same, get_or-set_other, length-set}
-use Rattle.common_lemmas.proofs.Numbers.{equal_self, unequal_turned, lt_true}
+use Rattle.common_lemmas.proofs.Numbers.{unequal_turned, lt_true}
 use Rattle.event_machine.specs.declared.Event.{Event}
 use Rattle.event_machine.specs.Soundness.{times}
-use Rattle.event_machine.specs.progress.Known.{Known, known_at_start, known, known_from, touches, advanced}
+use Rattle.event_machine.specs.progress.Known.{Known, known_at_start, known, touches}
 use Rattle.syn_order.specs.Orders.{AreAdmitted, split}
 use Rattle.syn_order.specs.Laws.{IsSource}
 use Rattle.syn_order.specs.inner.Lists.{at_place, put_behind}

@@ -1,14 +1,14 @@
 -- The callers of each task, kept beside what is known.
-use Rattle.std.proofs.Common.{◌≡◌, ℕ, zero, suc, ◌+◌, ◌-◌, ◌<◌, ◌≤◌, Bool, true, false, not, ◌&&◌, ◌||◌, ◌==◌, if◌then◌else◌, List, [], ◌∷◌, ◌++◌, length, take, reverse, get_or, set, replicate, Option, Some, None, is_some, refl, sym, ap, ◌∙◌, subst, ⊎_elim, true≢false, length-set, arith}
+use Rattle.std.proofs.Common.{◌≡◌, ℕ, ◌+◌, ◌-◌, ◌<◌, ◌≤◌, Bool, true, false, not, ◌&&◌, ◌==◌, if◌then◌else◌, List, [], ◌∷◌, ◌++◌, length, take, reverse, set, replicate, refl, sym, ap, ◌∙◌, subst, ⊎_elim, true≢false, length-set, arith}
 use Rattle.std.proofs.lemmas.Bool.{cases_lt, eqb-true, eqb-false, and_parts}
-use Rattle.std.proofs.lemmas.List.{get_or_past, get_or-set_same, get_or-set_other, reverse-append, reverse-reverse, length-append, length-replicate}
+use Rattle.std.proofs.lemmas.List.{get_or-set_same, get_or-set_other, reverse-append, reverse-reverse, length-append, length-replicate}
 use Rattle.std.proofs.Math.Seq.{take-append_seam}
 use Rattle.common_lemmas.proofs.Truth.{not_true}
 use Rattle.event_machine.specs.declared.Event.{Event}
 use Rattle.event_machine.specs.declared.Event.TheVariants.{R, E, S, D, C, T, F, X, B, Z}
-use Rattle.event_machine.specs.progress.Known.{Party, Known, party, known_at_start, is_closed, is_free, has_callers, admits, suits, put, part, complete, fall, meet, with_callers, with_server, advanced}
+use Rattle.event_machine.specs.progress.Known.{Party, Known, party, known_at_start, is_closed, is_free, has_callers, admits, suits, part, complete, fall, meet, advanced}
 use Rattle.event_machine.proofs.progress.Parties.{idle_at, idle_length}
-use Rattle.syn_order.specs.inner.Lists.{at_place, put_behind}
+use Rattle.syn_order.specs.inner.Lists.{at_place}
 use Rattle.syn_order.specs.inner.Callers.{Serve, AreCallers, all_but_last, callers_after}
 use Rattle.syn_order.proofs.Locality.{beyond, free_below, advanced_length}
 use Rattle.syn_order.proofs.Placing.{empty_at}

@@ -1,17 +1,17 @@
 -- Neighbours in a list of events.
-use Rattle.std.proofs.Common.{◌≡◌, ℕ, zero, suc, ◌+◌, ◌-◌, ◌<◌, ◌≤◌, Bool, true, false, ◌&&◌, ◌⊎◌, inl, inr, List, [], ◌∷◌, ◌++◌, length, get_or, take, drop, refl, sym, ap, ◌∙◌, subst, ⊎_elim, true≢false, arith}
+use Rattle.std.proofs.Common.{◌≡◌, ℕ, zero, suc, ◌+◌, ◌-◌, ◌<◌, ◌≤◌, Bool, true, false, ◌⊎◌, inl, inr, List, [], ◌∷◌, length, get_or, take, refl, sym, ap, ◌∙◌, subst, ⊎_elim, true≢false, arith}
 use Rattle.std.specs.Prelude.{◌↔◌, IsTrue, IsErrAnd, IfErr}
 use Rattle.std.proofs.Common.{Result, Ok, Err}
 use Rattle.std.proofs.lemmas.Bool.{cases_order}
 use Rattle.std.proofs.lemmas.List.{get_or-take, take-take, length-take-le, take_all}
 use Rattle.event_machine.specs.declared.Event.{Event}
 use Rattle.event_machine.specs.declared.Event.TheVariants.{Z}
-use Rattle.event_machine.specs.progress.Known.{Known, known_at_start, known, admits, advanced, touches}
+use Rattle.event_machine.specs.progress.Known.{Known, known_at_start, known, admits, advanced}
 use Rattle.syn_order.specs.declared.errors.OrderError.{OrderError}
 use Rattle.syn_order.specs.declared.errors.OrderError.TheVariants.{NotAdmitted, NoOrder, Memory}
 use Rattle.syn_order.specs.Orders.{AreAdmitted}
 use Rattle.syn_order.specs.Apart.{AreApart}
-use Rattle.syn_order.specs.Refusals.{IsFirstRefused, IsSplitError, AreNeighboursApart}
+use Rattle.syn_order.specs.Refusals.{IsSplitError, AreNeighboursApart}
 use Rattle.syn_order.proofs.Following.{admitted_further, known_further, refused_there}
 
 -- ---- whether two events are apart

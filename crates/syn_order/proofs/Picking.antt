@@ -1,8 +1,8 @@
 -- Lists join in one way at most, into a sequence that has these lists, and into some where the lists come from a sequence.
-use Rattle.std.proofs.Common.{◌≡◌, ◌≢◌, ℕ, ℤ, zero, suc, ◌+◌, ◌<◌, ◌≤◌, Bool, true, false, not, ◌&&◌, ◌⊎◌, inl, inr, if◌then◌else◌, List, [], ◌∷◌, length, Option, Some, None, refl, sym, ap, ◌∙◌, subst, ⊎_elim, true≢false, arith}
+use Rattle.std.proofs.Common.{◌≡◌, ◌≢◌, ℕ, ℤ, zero, suc, ◌+◌, ◌<◌, ◌≤◌, Bool, true, false, ◌⊎◌, inl, inr, if◌then◌else◌, List, [], ◌∷◌, length, Option, Some, None, refl, sym, ap, ◌∙◌, subst, ⊎_elim, true≢false, arith}
 use Rattle.std.specs.Bool.{Decides}
 use Rattle.std.specs.Ordering.{int_eq}
-use Rattle.std.proofs.lemmas.Bool.{cases_eq, cases_lt, cases_order, cases_Bool}
+use Rattle.std.proofs.lemmas.Bool.{cases_eq, cases_order, cases_Bool}
 use Rattle.std.proofs.lemmas.Bool.Decides.{Decides-int_eq}
 use Rattle.common_lemmas.proofs.Lists.{not_empty}
 use Rattle.common_lemmas.proofs.Options.{some_same, not_missing}
@@ -11,7 +11,7 @@ use Rattle.event_machine.specs.declared.Event.TheVariants.{R, E, S, D, C, T, F, 
 use Rattle.event_machine.specs.progress.Known.{Known, admits, advanced, touches, known_from}
 use Rattle.syn_order.specs.Orders.{AreAdmitted, split, first, rest, IsReady, IsPicked, taken, ArePicked, left_after, IsJoin, HasNoOrder}
 use Rattle.syn_order.proofs.Locality.{advanced_length, touches_one}
-use Rattle.syn_order.proofs.Pulling.{some_below, first_ready, ready_same, taken_same, first_taken, Pulled, pulled, all_empty}
+use Rattle.syn_order.proofs.Pulling.{first_ready, ready_same, taken_same, pulled}
 
 -- ---- whether two events are the same
 

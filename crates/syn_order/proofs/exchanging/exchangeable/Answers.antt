@@ -1,5 +1,4 @@
 use Rattle.std.proofs.Common.{length}
-use Rattle.std.specs.Prelude.{◌↔◌, IsTrue}
 use Rattle.common_lemmas.proofs.Results.{if_ok}
 use Rattle.syn_event.specs.Numbering.{owner_of}
 use Rattle.syn_order.proofs.Neighbours.{same_apart}

@@ -1,4 +1,4 @@
-use Rattle.std.proofs.Common.{◌≡◌, ◌+◌, refl, ap, length}
+use Rattle.std.proofs.Common.{◌+◌, refl, ap, length}
 use Rattle.syn_event.specs.Numbering.{owner_of}
 use Rattle.syn_order.proofs.Following.{admitted_further, known_further}
 use Rattle.syn_order.specs.Refusals.{IsSplitError}

@@ -1,4 +1,4 @@
-use Rattle.std.proofs.Common.{◌≡◌, ◌+◌, ◌-◌, length, arith}
+use Rattle.std.proofs.Common.{◌+◌, ◌-◌, length, arith}
 use Rattle.syn_event.specs.Numbering.{owner_of}
 use Rattle.syn_order.specs.Refusals.{IsSplitError}
 use Rattle.syn_order.proofs.Neighbours.{refused_longer, last_but_one_refused, last_refused, last_admitted, last_apart_iff, passed_on}

@@ -1,5 +1,4 @@
-use Rattle.std.proofs.Common.{◌≡◌, ◌∙◌, subst, length, map}
-use Rattle.std.specs.Vec.{with_items}
+use Rattle.std.proofs.Common.{◌∙◌, subst, length, map}
 use Rattle.std.proofs.lemmas.List.{with_items_is}
 use Rattle.syn_event.specs.Numbering.{owner_of}
 use Rattle.syn_order.specs.Orders.{list_at}

@@ -1,4 +1,4 @@
-use Rattle.std.proofs.Common.{◌≡◌, ◌∙◌, sym, length, map}
+use Rattle.std.proofs.Common.{◌∙◌, sym, length, map}
 use Rattle.syn_event.specs.Numbering.{owner_of}
 use Rattle.syn_order.specs.inner.Places.{left}
 use Rattle.syn_order.proofs.Taking.{late_end, not_ready_at, nothing_at}

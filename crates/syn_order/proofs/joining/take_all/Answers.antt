@@ -1,7 +1,7 @@
-use Rattle.std.proofs.Common.{◌≡◌, ◌<◌, ℕ, List, sym, subst, length, map}
+use Rattle.std.proofs.Common.{ℕ, List, sym, subst, length, map}
 use Rattle.event_machine.specs.declared.Event.{Event}
 use Rattle.syn_event.specs.Numbering.{owner_of}
-use Rattle.syn_order.specs.Orders.{list_at, taken, IsPicked}
+use Rattle.syn_order.specs.Orders.{list_at, IsPicked}
 use Rattle.syn_order.specs.inner.Callers.{AreTouched}
 use Rattle.syn_order.specs.inner.Places.{left}
 use Rattle.syn_order.proofs.Following.{known_tasks}

@@ -1,4 +1,4 @@
-use Rattle.std.proofs.Common.{◌≡◌, ◌≤◌, ◌∙◌, ap, sym, subst, length, map, get_or, set, arith}
+use Rattle.std.proofs.Common.{◌∙◌, ap, length, map, get_or, set, arith}
 use Rattle.std.proofs.lemmas.List.{length-map}
 use Rattle.syn_order.specs.inner.Places.{left, next_place}
 use Rattle.syn_order.proofs.Taking.{left_set, left_past}

@@ -1,4 +1,4 @@
-use Rattle.std.proofs.Common.{◌≡◌, ◌∙◌, sym, subst, length, map, Some, arith}
+use Rattle.std.proofs.Common.{◌≡◌, subst, length, map, Some, arith}
 use Rattle.std.specs.Prelude.{◌↔◌, IsTrue}
 use Rattle.syn_order.specs.Orders.{first}
 use Rattle.syn_order.specs.inner.Places.{left}

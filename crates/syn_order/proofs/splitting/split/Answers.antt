@@ -1,7 +1,5 @@
-use Rattle.std.proofs.Common.{◌≡◌, ◌+◌, ◌<◌, ◌∙◌, ◌++◌, [], refl, ap, sym, subst, length, map, replicate, take}
+use Rattle.std.proofs.Common.{◌+◌, ◌<◌, ◌∙◌, [], refl, ap, sym, subst, length, map, take}
 use Rattle.std.proofs.lemmas.List.{length-map, length-replicate}
-use Rattle.event_machine.specs.Soundness.{times}
-use Rattle.event_machine.specs.progress.Known.{Known, known}
 use Rattle.syn_event.specs.Numbering.{Numbering, owner_of}
 use Rattle.syn_order.specs.inner.Lists.{at_place}
 use Rattle.syn_order.proofs.Placing.{empty_at}
