@@ -1,6 +1,6 @@
 -- Neighbours that are apart: each is admitted before and behind the other, touches the same tasks there, and both orders lead to the same.
-use Rattle.std.proofs.Common.{◌≡◌, ℕ, ◌<◌, ◌≤◌, Bool, true, false, not, ◌&&◌, ◌||◌, ◌==◌, length, refl, sym, ap, ◌∙◌, subst, ⊎_elim, true≢false}
-use Rattle.std.proofs.lemmas.Bool.{cases_lt, or_right, and_parts, and_cases}
+use Rattle.std.proofs.Common.{◌≡◌, ℕ, ◌<◌, Bool, true, false, not, ◌&&◌, ◌||◌, ◌==◌, length, refl, sym, ap, ◌∙◌, subst, true≢false}
+use Rattle.std.proofs.lemmas.Bool.{or_right, and_parts}
 use Rattle.std.proofs.lemmas.List.{ext_get_or}
 use Rattle.common_lemmas.proofs.Numbers.{equal_self}
 use Rattle.event_machine.specs.declared.Event.{Event}
@@ -9,7 +9,7 @@ use Rattle.event_machine.specs.Worlds.{is_last}
 use Rattle.event_machine.specs.progress.Known.{Party, Known, nobody, party, is_served_by, is_innermost, admits, suits, advanced, touches}
 use Rattle.event_machine.proofs.progress.Parties.{advanced_ended}
 use Rattle.syn_order.specs.Apart.{AreApart}
-use Rattle.syn_order.proofs.Locality.{beyond, advanced_length, untouched, missed, Agree, suits_same, touched_same, new_server, touches_one}
+use Rattle.syn_order.proofs.Locality.{advanced_length, untouched, missed, Agree, suits_same, touched_same, new_server, touches_one}
 
 -- of two tests that are not both passed the second fails where the first is passed
 pub other_false : (a b : Bool) → (a && b) ≡ false → a ≡ true → b ≡ false

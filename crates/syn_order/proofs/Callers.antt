@@ -1,13 +1,13 @@
 -- After admitted events the callers of a task are those that it serves, each once, and no task serves itself.
-use Rattle.std.proofs.Common.{◌≡◌, ℕ, ◌+◌, ◌<◌, ◌≤◌, Bool, true, false, not, ◌&&◌, ◌==◌, if◌then◌else◌, List, [], ◌∷◌, length, map, Option, Some, None, is_some, refl, sym, ap, ◌∙◌, subst, ⊎_elim, true≢false, length-set, arith}
-use Rattle.std.proofs.lemmas.Bool.{cases_lt, eqb-true, eqb-false, and_parts}
-use Rattle.std.proofs.lemmas.List.{get_or_past, length-map}
+use Rattle.std.proofs.Common.{◌≡◌, ℕ, ◌+◌, ◌<◌, ◌≤◌, Bool, true, false, not, ◌&&◌, ◌==◌, if◌then◌else◌, List, [], ◌∷◌, length, Option, Some, None, is_some, refl, sym, ap, ◌∙◌, subst, ⊎_elim, true≢false, length-set, arith}
+use Rattle.std.proofs.lemmas.Bool.{cases_lt, eqb-true, and_parts}
+use Rattle.std.proofs.lemmas.List.{length-map}
 use Rattle.common_lemmas.proofs.Numbers.{equal_self, unequal, unequal_turned}
 use Rattle.common_lemmas.proofs.Truth.{not_true}
 use Rattle.event_machine.specs.declared.Event.{Event}
 use Rattle.event_machine.specs.declared.Event.TheVariants.{R, E, S, D, C, T, F, X, B, Z}
 use Rattle.event_machine.specs.Soundness.{times}
-use Rattle.event_machine.specs.progress.Known.{Party, Known, nobody, party, known_at_start, is_closed, is_free, is_by, is_served_by, has_callers, admits, suits, put, meet, part, complete, fall, let_go, with_server, with_callers, advanced, known_from}
+use Rattle.event_machine.specs.progress.Known.{Party, Known, party, known_at_start, is_closed, is_free, is_by, is_served_by, has_callers, admits, suits, put, meet, part, complete, fall, let_go, with_server, with_callers, advanced}
 use Rattle.event_machine.proofs.progress.Parties.{known_below, put_self, put_other, all_let_go, let_go_at, idle_at, idle_length}
 use Rattle.syn_order.specs.inner.Callers.{Serve}
 use Rattle.syn_order.proofs.Locality.{beyond, free_below}

@@ -1,18 +1,15 @@
 -- The laws of orders.
-use Rattle.std.proofs.Common.{◌≡◌, ℕ, zero, suc, ◌<◌, ◌⊎◌, inl, inr, List, [], length, refl, sym, ap, ◌∙◌, subst, ⊎_elim, arith}
-use Rattle.std.specs.Prelude.{map, ◌↔◌}
-use Rattle.std.specs.List.{range_with_len}
+use Rattle.std.proofs.Common.{◌≡◌, ℕ, zero, suc, ◌<◌, ◌⊎◌, inl, inr, List, [], length, refl, sym, ap, ◌∙◌, subst, arith}
 use Rattle.std.proofs.lemmas.Bool.{cases_order}
 use Rattle.std.proofs.lemmas.List.{ext_get_or}
 use Rattle.std.proofs.lemmas.List.FromFn.{length-map-range_with_len, get_or-map-range_with_len}
 use Rattle.event_machine.specs.declared.Event.{Event}
 use Rattle.event_machine.specs.progress.Known.{Known, known_at_start}
 use Rattle.event_machine.proofs.progress.Parties.{idle_length}
-use Rattle.syn_order.specs.Orders.{AreAdmitted, split, splits, list_at, left_after, IsJoin, HasNoOrder}
-use Rattle.syn_order.specs.Apart.{AreAlike}
+use Rattle.syn_order.specs.Orders.{split, splits, list_at, left_after}
 use Rattle.syn_order.specs.Laws.{IsOrder, NoOrder, IsSource, LawOfOrders, OrdersOfAll, SameListsAreAlike}
-use Rattle.syn_order.proofs.Pulling.{alike_by_lists, lists_of_alike, HasSameLists}
-use Rattle.syn_order.proofs.Picking.{total, joined, joined_back, SplitsBack, used_up_over, over_once, stuck_over, join_or}
+use Rattle.syn_order.proofs.Pulling.{alike_by_lists, lists_of_alike}
+use Rattle.syn_order.proofs.Picking.{total, joined, joined_back, used_up_over, over_once, stuck_over, join_or}
 
 -- ---- lists of lists
 
@@ -91,9 +88,11 @@ orders_of_all owner n lists count = law owner n lists count
 
 pub same_lists_are_alike : SameListsAreAlike
 same_lists_are_alike owner n xs ys some a = (
-    λ h. alike_by_lists owner n some ys (known_at_start n) xs (idle_length n) a h.0
-        (λ t l. by_splits owner n (known_at_start n) xs (splits owner n (known_at_start n) ys) h.1 t l ∙ split_at owner n (known_at_start n) ys t l),
-    λ h. let r = lists_of_alike owner n some (known_at_start n) xs ys h (idle_length n) a in
-        (r.admitted, splits_by owner n (known_at_start n) xs (splits owner n (known_at_start n) ys) (splits_length owner n (known_at_start n) ys)
-            (λ t l. r.lists t l ∙ sym (split_at owner n (known_at_start n) ys t l))),
-  )
+  λ h. alike_by_lists owner n some ys (known_at_start n) xs (idle_length n) a h.0
+      (λ t l. by_splits owner n (known_at_start n) xs (splits owner n (known_at_start n) ys) h.1 t l ∙ split_at owner n (known_at_start n) ys t l),
+  λ h. let r = lists_of_alike owner n some (known_at_start n) xs ys h (idle_length n) a in (
+    r.admitted,
+    splits_by owner n (known_at_start n) xs (splits owner n (known_at_start n) ys) (splits_length owner n (known_at_start n) ys)
+        (λ t l. r.lists t l ∙ sym (split_at owner n (known_at_start n) ys t l)),
+  ),
+)

@@ -1,14 +1,14 @@
 -- The callers of each task, kept beside what is known.
-use Rattle.std.proofs.Common.{◌≡◌, ℕ, zero, suc, ◌+◌, ◌-◌, ◌<◌, ◌≤◌, Bool, true, false, not, ◌&&◌, ◌||◌, ◌==◌, if◌then◌else◌, List, [], ◌∷◌, ◌++◌, length, take, reverse, get_or, set, replicate, Option, Some, None, is_some, refl, sym, ap, ◌∙◌, subst, ⊎_elim, true≢false, length-set, arith}
+use Rattle.std.proofs.Common.{◌≡◌, ℕ, ◌+◌, ◌-◌, ◌<◌, ◌≤◌, Bool, true, false, not, ◌&&◌, ◌==◌, if◌then◌else◌, List, [], ◌∷◌, ◌++◌, length, take, reverse, set, replicate, refl, sym, ap, ◌∙◌, subst, ⊎_elim, true≢false, length-set, arith}
 use Rattle.std.proofs.lemmas.Bool.{cases_lt, eqb-true, eqb-false, and_parts}
-use Rattle.std.proofs.lemmas.List.{get_or_past, get_or-set_same, get_or-set_other, reverse-append, reverse-reverse, length-append, length-replicate}
+use Rattle.std.proofs.lemmas.List.{get_or-set_same, get_or-set_other, reverse-append, reverse-reverse, length-append, length-replicate}
 use Rattle.std.proofs.Math.Seq.{take-append_seam}
 use Rattle.common_lemmas.proofs.Truth.{not_true}
 use Rattle.event_machine.specs.declared.Event.{Event}
 use Rattle.event_machine.specs.declared.Event.TheVariants.{R, E, S, D, C, T, F, X, B, Z}
-use Rattle.event_machine.specs.progress.Known.{Party, Known, party, known_at_start, is_closed, is_free, has_callers, admits, suits, put, part, complete, fall, meet, with_callers, with_server, advanced}
+use Rattle.event_machine.specs.progress.Known.{Party, Known, party, known_at_start, is_closed, is_free, has_callers, admits, suits, part, complete, fall, meet, advanced}
 use Rattle.event_machine.proofs.progress.Parties.{idle_at, idle_length}
-use Rattle.syn_order.specs.inner.Lists.{at_place, put_behind}
+use Rattle.syn_order.specs.inner.Lists.{at_place}
 use Rattle.syn_order.specs.inner.Callers.{Serve, AreCallers, all_but_last, callers_after}
 use Rattle.syn_order.proofs.Locality.{beyond, free_below, advanced_length}
 use Rattle.syn_order.proofs.Placing.{empty_at}
@@ -68,8 +68,8 @@ module _ (owner : ℕ → ℕ) (k : Known) (stacks : List (List ℕ)) (h : AreCa
           let more = and_parts (is_free k c) (is_free k (owner e) && not (c == owner e)) f in
           let last = and_parts (is_free k (owner e)) (not (c == owner e)) more.1 in
           written (meet k c (owner e)) (owner e) (at_place stacks (owner e) ++ c ∷ []) (c ∷ (party k (owner e)).callers) n (free_below k (owner e) last.0)
-              (λ u. met_callers k h.serve c (owner e) more.0 last.0 (not_true (c == owner e) last.1) u ∙ there c (owner e) u (u == owner e) refl)
-              (ap (λ cs. c ∷ cs) (h.kept (owner e)) ∙ sym (reverse_last (at_place stacks (owner e)) c)) s
+          (λ u. met_callers k h.serve c (owner e) more.0 last.0 (not_true (c == owner e) last.1) u ∙ there c (owner e) u (u == owner e) refl)
+          (ap (λ cs. c ∷ cs) (h.kept (owner e)) ∙ sym (reverse_last (at_place stacks (owner e)) c)) s
         where
           there : (c o u : ℕ) (b : Bool) → (u == o) ≡ b → (if b then c ∷ (party k u).callers else (party k u).callers) ≡ (if b then c ∷ (party k o).callers else (party k u).callers)
           there c o u true q = ap (λ v. c ∷ (party k v).callers) (eqb-true u o q)
@@ -81,7 +81,7 @@ module _ (owner : ℕ → ℕ) (k : Known) (stacks : List (List ℕ)) (h : AreCa
           parted a [] q free some n s = absurd (true≢false (sym some))
           parted a (c ∷ cs) q free some n s =
               written (part k a (c ∷ cs)) a (all_but_last (at_place stacks a)) cs n (free_below k a free) (parted_callers k h.serve a c cs free q)
-                  (sym (rest_reverse (at_place stacks a) c cs (sym (h.kept a) ∙ q))) s
+              (sym (rest_reverse (at_place stacks a) c cs (sym (h.kept a) ∙ q))) s
       go (S a) f n s = h
       go (D a m) f n s = h
       go (C c e i) f n s = h

@@ -10,4 +10,5 @@ pub mod Touching
 pub mod Placing
 pub mod Dealing
 pub mod Neighbours
+pub mod Taking
 pub mod exchange

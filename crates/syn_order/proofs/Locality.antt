@@ -6,7 +6,7 @@ use Rattle.common_lemmas.proofs.Numbers.{equal_self}
 use Rattle.event_machine.specs.declared.Event.{Event}
 use Rattle.event_machine.specs.declared.Event.TheVariants.{R, E, S, D, C, T, F, X, B, Z}
 use Rattle.event_machine.specs.Worlds.{is_last}
-use Rattle.event_machine.specs.progress.Known.{Party, Known, nobody, party, is_closed, is_free, is_served_by, is_innermost, is_by, has_callers, admits, suits, put, part, fall, let_go, with_server, with_callers, advanced, touches}
+use Rattle.event_machine.specs.progress.Known.{Party, Known, nobody, party, is_closed, is_free, is_served_by, is_innermost, has_callers, admits, suits, put, part, fall, let_go, with_server, with_callers, advanced, touches}
 use Rattle.event_machine.proofs.progress.Parties.{known_below, put_self, put_other, all_let_go, let_go_at}
 
 -- ---- tasks

@@ -1,8 +1,8 @@
 -- Lists join in one way at most, into a sequence that has these lists, and into some where the lists come from a sequence.
-use Rattle.std.proofs.Common.{◌≡◌, ◌≢◌, ℕ, ℤ, zero, suc, ◌+◌, ◌<◌, ◌≤◌, Bool, true, false, not, ◌&&◌, ◌⊎◌, inl, inr, if◌then◌else◌, List, [], ◌∷◌, length, Option, Some, None, refl, sym, ap, ◌∙◌, subst, ⊎_elim, true≢false, arith}
+use Rattle.std.proofs.Common.{◌≡◌, ◌≢◌, ℕ, ℤ, zero, suc, ◌+◌, ◌<◌, ◌≤◌, Bool, true, false, ◌⊎◌, inl, inr, if◌then◌else◌, List, [], ◌∷◌, length, Option, Some, None, refl, sym, ap, ◌∙◌, subst, ⊎_elim, true≢false, arith}
 use Rattle.std.specs.Bool.{Decides}
 use Rattle.std.specs.Ordering.{int_eq}
-use Rattle.std.proofs.lemmas.Bool.{cases_eq, cases_lt, cases_order, cases_Bool}
+use Rattle.std.proofs.lemmas.Bool.{cases_eq, cases_order, cases_Bool}
 use Rattle.std.proofs.lemmas.Bool.Decides.{Decides-int_eq}
 use Rattle.common_lemmas.proofs.Lists.{not_empty}
 use Rattle.common_lemmas.proofs.Options.{some_same, not_missing}
@@ -11,7 +11,7 @@ use Rattle.event_machine.specs.declared.Event.TheVariants.{R, E, S, D, C, T, F, 
 use Rattle.event_machine.specs.progress.Known.{Known, admits, advanced, touches, known_from}
 use Rattle.syn_order.specs.Orders.{AreAdmitted, split, first, rest, IsReady, IsPicked, taken, ArePicked, left_after, IsJoin, HasNoOrder}
 use Rattle.syn_order.proofs.Locality.{advanced_length, touches_one}
-use Rattle.syn_order.proofs.Pulling.{some_below, first_ready, ready_same, taken_same, first_taken, Pulled, pulled, all_empty}
+use Rattle.syn_order.proofs.Pulling.{first_ready, ready_same, taken_same, pulled}
 
 -- ---- whether two events are the same
 
@@ -176,8 +176,8 @@ module _ (owner : ℕ → ℕ) (n : ℕ) where
       let p = some_picked k lists x sized some (ready_same owner n k (split owner k (x ∷ xs)) lists x h (first_ready owner n k x xs a.0)) in
       let r = pulled owner n some (x ∷ xs) k p.0 sized a (ready_same owner n k lists (split owner k (x ∷ xs)) p.0 (λ t l. sym (h t l)) p.1.ready) in
       one_more k lists p.0 p.1
-          (joined some m (advanced owner k p.0) (taken owner k lists p.0) r.others (same_number (length r.others) (length xs) m r.shorter s) (advanced_length owner k p.0 ∙ sized) r.admitted
-              (λ t l. r.lists t l ∙ taken_same owner k (split owner k (x ∷ xs)) lists p.0 t (h t l)))
+      (joined some m (advanced owner k p.0) (taken owner k lists p.0) r.others (same_number (length r.others) (length xs) m r.shorter s) (advanced_length owner k p.0 ∙ sized) r.admitted
+      (λ t l. r.lists t l ∙ taken_same owner k (split owner k (x ∷ xs)) lists p.0 t (h t l)))
     where
       same_number : (a b c : ℕ) → suc a ≡ suc b → suc b ≡ suc c → a ≡ c
       same_number a b c p q = omega (arith, p, q)
@@ -238,7 +238,7 @@ module _ (owner : ℕ → ℕ) (n : ℕ) where
   taken_length true (z ∷ zs) = let l = length zs in omega arith
   taken_length false zs = omega arith
 
-  total_less : (k : Known) (lists : ℕ → List Event) (e : Event) (m t : ℕ) → t < m → touches owner k e t ≡ true → first (lists t) ≡ Some e →
+  pub total_less : (k : Known) (lists : ℕ → List Event) (e : Event) (m t : ℕ) → t < m → touches owner k e t ≡ true → first (lists t) ≡ Some e →
       total (taken owner k lists e) m < total lists m
   total_less k lists e zero t l h f = absurd (omega (arith, l))
   total_less k lists e (suc m) t l h f = go (cases_order t m) (λ b. total_less k lists e m t b h f)
@@ -255,7 +255,7 @@ module _ (owner : ℕ → ℕ) (n : ℕ) where
       go (inl p) more =
           let q = no_more m in
           let r = subst (λ v. length (if touches owner k e v then rest (lists v) else lists v) < length (lists v)) p
-              (subst (λ b. length (if b then rest (lists t) else lists t) < length (lists t)) (sym h) (one_less (lists t) f)) in
+          (subst (λ b. length (if b then rest (lists t) else lists t) < length (lists t)) (sym h) (one_less (lists t) f)) in
           omega (arith, q, r)
       go (inr (inl b)) more = let p = more b in let q = taken_length (touches owner k e m) (lists m) in omega (arith, p, q)
       go (inr (inr b)) more = absurd (omega (arith, l, b))
@@ -284,9 +284,17 @@ module _ (owner : ℕ → ℕ) (n : ℕ) where
   Stuck k lists = (task : ℕ) × HasNoOrder owner n k lists task
 
   one_more_stuck : (k : Known) (lists : ℕ → List Event) (e : Event) → IsPicked owner n k lists e → Stuck (advanced owner k e) (taken owner k lists e) → Stuck k lists
-  one_more_stuck k lists e p (task, s) = (task, record {
-    events = e ∷ s.events; picked = (p, s.picked); none_ready = s.none_ready; below = s.below; not_used_up = s.not_used_up; used_up_before = s.used_up_before;
-  })
+  one_more_stuck k lists e p (task, s) = (
+    task,
+    record {
+      events = e ∷ s.events;
+      picked = (p, s.picked);
+      none_ready = s.none_ready;
+      below = s.below;
+      not_used_up = s.not_used_up;
+      used_up_before = s.used_up_before;
+    },
+  )
 
   -- where no first event is ready no event is
   none_at_all : (k : Known) (lists : ℕ → List Event) → length k.parties ≡ n → 0 < n → NoneReady k lists n → (e : Event) → IsReady owner n k lists e → ⊥
@@ -309,9 +317,17 @@ module _ (owner : ℕ → ℕ) (n : ℕ) where
           ((e : Event) → IsPicked owner n k lists e → Joined (advanced owner k e) (taken owner k lists e) ⊎ Stuck (advanced owner k e) (taken owner k lists e)) → Joined k lists ⊎ Stuck k lists
       go (inl (e, p)) more = ⊎_elim (λ j. inl (one_more k lists e p j)) (λ j. inr (one_more_stuck k lists e p j)) (more e p)
       go (inr h) more = ⊎_elim
-          (λ f. let l = f.1 in inr (f.0, record {
-            events = []; picked = tt; none_ready = none_at_all k lists sized (omega (arith, l)) h; below = f.1; not_used_up = f.2; used_up_before = f.3;
-          }))
+          (λ f. let l = f.1 in inr (
+            f.0,
+            record {
+              events = [];
+              picked = tt;
+              none_ready = none_at_all k lists sized (omega (arith, l)) h;
+              below = f.1;
+              not_used_up = f.2;
+              used_up_before = f.3;
+            },
+          ))
           (λ f. inl ([], record { picked = tt; used_up = f })) (first_left lists n)
 
   pub stuck_over : (k : Known) (lists : ℕ → List Event) (task : ℕ) (s : HasNoOrder owner n k lists task) → IsOver k lists s.events

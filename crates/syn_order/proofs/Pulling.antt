@@ -1,5 +1,5 @@
 -- An event that is ready for the lists of a sequence can be pulled to its front.
-use Rattle.std.proofs.Common.{◌≡◌, ℕ, zero, suc, ◌<◌, Bool, true, false, ◌&&◌, ◌⊎◌, inl, inr, if◌then◌else◌, List, [], ◌∷◌, length, Option, Some, None, refl, sym, ap, ◌∙◌, subst, true≢false, arith}
+use Rattle.std.proofs.Common.{◌≡◌, ℕ, zero, suc, ◌<◌, Bool, true, false, ◌&&◌, ◌⊎◌, inl, inr, if◌then◌else◌, List, [], ◌∷◌, length, Some, refl, sym, ap, ◌∙◌, subst, true≢false, arith}
 use Rattle.std.proofs.lemmas.Bool.{cases_order, and_parts}
 use Rattle.common_lemmas.proofs.Options.{some_same, not_missing}
 use Rattle.event_machine.specs.declared.Event.{Event}
@@ -101,9 +101,9 @@ module _ (owner : ℕ → ℕ) (n : ℕ) (some : 0 < n) where
       alike = further k (f ∷ xs) (f ∷ e ∷ p.others) (e ∷ f ∷ p.others) (first_same k f xs (e ∷ p.others) p.alike) (exchanged k f e p.others apart);
       lists = λ t l.
           ap (λ b. if b then f ∷ split owner (advanced owner (advanced owner k e) f) p.others t else split owner (advanced owner (advanced owner k e) f) p.others t)
-              (touches_same owner n k sized e f turned ready.admitted t)
+          (touches_same owner n k sized e f turned ready.admitted t)
           ∙ ap (λ ys. if touches owner k f t then f ∷ ys else ys) (ap (λ m. split owner m p.others t) (sym met) ∙ p.lists t l
-              ∙ ap (λ b. if b then rest (split owner behind xs t) else split owner behind xs t) (touched t))
+          ∙ ap (λ b. if b then rest (split owner behind xs t) else split owner behind xs t) (touched t))
           ∙ both (touches owner k f t) (touches owner k e t) (split owner behind xs t) (apart t l);
       shorter = ap suc p.shorter;
     }
@@ -129,7 +129,7 @@ module _ (owner : ℕ → ℕ) (n : ℕ) (some : 0 < n) where
           subst (λ g. Pulled owner n k (f ∷ xs) g) (front h.0 h.1 p.0 p.1) (in_front k f xs a.1)
       go (inr apart) more = over k sized f e xs apart a.0 ready (more apart)
 
--- ---- alike sequences
+  -- ---- alike sequences
 
   -- an admitted sequence without lists is empty
   pub all_empty : (xs : List Event) (k : Known) → length k.parties ≡ n → AreAdmitted owner k xs → ((t : ℕ) → t < n → split owner k xs t ≡ []) → xs ≡ []
@@ -143,8 +143,8 @@ module _ (owner : ℕ → ℕ) (n : ℕ) (some : 0 < n) where
   alike_by_lists [] k xs sized a b h = subst (λ zs. AreAlike owner n k zs []) (sym (all_empty xs k sized a h)) (same k [])
   alike_by_lists (e ∷ ys) k xs sized a b h =
       further k xs (e ∷ p.others) (e ∷ ys) p.alike
-          (first_same k e p.others ys (alike_by_lists ys (advanced owner k e) p.others (advanced_length owner k e ∙ sized) p.admitted b.1
-              (λ t l. p.lists t l ∙ taken_same owner k (split owner k xs) (split owner k (e ∷ ys)) e t (h t l) ∙ first_taken owner k e ys t)))
+      (first_same k e p.others ys (alike_by_lists ys (advanced owner k e) p.others (advanced_length owner k e ∙ sized) p.admitted b.1
+      (λ t l. p.lists t l ∙ taken_same owner k (split owner k xs) (split owner k (e ∷ ys)) e t (h t l) ∙ first_taken owner k e ys t)))
     where
       p : Pulled owner n k xs e
       p = pulled xs k e sized a (ready_same owner n k (split owner k (e ∷ ys)) (split owner k xs) e (λ t l. sym (h t l)) (first_ready owner n k e ys b.0))
@@ -159,11 +159,11 @@ module _ (owner : ℕ → ℕ) (n : ℕ) (some : 0 < n) where
     admitted = (f_first, (still_admitted owner n k sized some f e turned f_first a.0, subst (λ m. AreAdmitted owner m xs) met a.1.1));
     lists = λ t l.
         ap (λ b. if touches owner k e t then e ∷ (if b then f ∷ split owner (advanced owner (advanced owner k e) f) xs t else split owner (advanced owner (advanced owner k e) f) xs t) else (if b then f ∷ split owner (advanced owner (advanced owner k e) f) xs t else split owner (advanced owner (advanced owner k e) f) xs t))
-            (touches_same owner n k sized e f apart a.0 t)
+        (touches_same owner n k sized e f apart a.0 t)
         ∙ ap (λ zs. if touches owner k e t then e ∷ (if touches owner k f t then f ∷ zs else zs) else (if touches owner k f t then f ∷ zs else zs)) (ap (λ m. split owner m xs t) met)
         ∙ both (touches owner k e t) (touches owner k f t) (split owner (advanced owner (advanced owner k f) e) xs t) (apart t l)
         ∙ ap (λ b. if touches owner k f t then f ∷ (if b then e ∷ split owner (advanced owner (advanced owner k f) e) xs t else split owner (advanced owner (advanced owner k f) e) xs t) else (if b then e ∷ split owner (advanced owner (advanced owner k f) e) xs t else split owner (advanced owner (advanced owner k f) e) xs t))
-            (sym (touches_same owner n k sized f e turned f_first t));
+        (sym (touches_same owner n k sized f e turned f_first t));
   }
     where
       turned : AreApart owner n k f e

@@ -1,13 +1,13 @@
 -- Which tasks have been put among those that an event touches.
-use Rattle.std.proofs.Common.{◌≡◌, ℕ, zero, suc, ◌+◌, ◌<◌, ◌≤◌, Bool, true, false, ◌&&◌, ◌||◌, ◌==◌, ◌⊎◌, inl, inr, if◌then◌else◌, List, [], ◌∷◌, ◌++◌, length, take, reverse, get_or, refl, sym, ap, ◌∙◌, subst, ⊎_elim, true≢false, arith}
+use Rattle.std.proofs.Common.{◌≡◌, ℕ, ◌+◌, ◌<◌, ◌≤◌, Bool, true, false, ◌&&◌, ◌||◌, ◌==◌, ◌⊎◌, inl, inr, if◌then◌else◌, List, [], ◌∷◌, ◌++◌, length, take, reverse, get_or, refl, sym, ap, ◌∙◌, subst, ⊎_elim, true≢false, arith}
 use Rattle.std.specs.Prelude.{nat_lt}
-use Rattle.std.proofs.lemmas.Bool.{eqb-true, eqb-false, lt-ltb, le-ltb, cases_lt}
+use Rattle.std.proofs.lemmas.Bool.{eqb-true, eqb-false, cases_lt}
 use Rattle.std.proofs.lemmas.List.{take_more, reverse-append}
-use Rattle.common_lemmas.proofs.Numbers.{equal_self, unequal, unequal_turned, lt_true, lt_false}
+use Rattle.common_lemmas.proofs.Numbers.{equal_self, unequal_turned, lt_true, lt_false}
 use Rattle.event_machine.specs.declared.Event.{Event}
-use Rattle.event_machine.specs.declared.Event.TheVariants.{R, E, S, D, C, T, F, X, B, Z}
+use Rattle.event_machine.specs.declared.Event.TheVariants.{E, B}
 use Rattle.event_machine.specs.Soundness.{times}
-use Rattle.event_machine.specs.progress.Known.{Party, Known, party, is_innermost, is_served_by, touches}
+use Rattle.event_machine.specs.progress.Known.{Known, party, is_innermost, is_served_by, touches}
 use Rattle.syn_order.specs.inner.Lists.{at_place}
 use Rattle.syn_order.specs.inner.Callers.{AreCallers, AreTouched, innermost_or}
 

@@ -1,5 +1,5 @@
 -- Which error comes when (this project's rule).
-use Rattle.std.specs.Prelude.{◌≡◌, ℕ, ◌+◌, ◌-◌, ◌≤◌, List, length, take, slice_index_or}
+use Rattle.std.specs.Prelude.{ℕ, ◌-◌, ◌≤◌, List, length, take, slice_index_or}
 use Rattle.event_machine.specs.declared.Event.{Event}
 use Rattle.event_machine.specs.declared.Event.TheVariants.{Z}
 use Rattle.event_machine.specs.progress.Known.{known_at_start, known}

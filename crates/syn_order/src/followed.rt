@@ -62,7 +62,12 @@ impl Followed {
             | Event::C { c, e, .. }
             | Event::T { c, e, .. }
             | Event::F { c, e, .. } => put_two(touched, c, numbers.owner(e), count),
-            Event::E { a } => put_two(touched, a, innermost_or(callers_of(&self.callers, a), a), count),
+            Event::E { a } => put_two(
+                touched,
+                a,
+                innermost_or(callers_of(&self.callers, a), a),
+                count,
+            ),
             Event::S { a } | Event::D { a, .. } | Event::X { a } => put_one(touched, a, count),
             Event::B { t, x } => {
                 put_two(touched, t, x, count)?;
@@ -135,7 +140,7 @@ pub(crate) fn callers_of(callers: &[Vec<u32>], t: u32) -> &[u32]
 }
 
 // The innermost of these callers, or `d` where there is none.
-fn innermost_or(callers: &[u32], d: u32) -> u32
+pub(crate) fn innermost_or(callers: &[u32], d: u32) -> u32
     ensures { result ≡ innermost_or d (reverse callers.now) }
 {
     match callers.last() {

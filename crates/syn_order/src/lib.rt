@@ -4,12 +4,14 @@
 mod errors;
 mod exchanging;
 mod followed;
+mod joining;
 pub mod laws;
 mod lists;
+mod places;
+mod readiness;
 mod splitting;
-mod task_lists;
 
 pub use errors::OrderError;
 pub use exchanging::exchangeable;
+pub use joining::join;
 pub use splitting::split;
-pub use task_lists::TaskLists;

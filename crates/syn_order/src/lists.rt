@@ -44,11 +44,7 @@ fn add_no_callers(alloc: Global, lists: &mut Vec<Vec<u32>>) -> Result<(), Memory
 }
 
 /// An event goes behind those of a task.
-pub(crate) fn put_event(
-    lists: &mut Vec<Vec<Event>>,
-    place: usize,
-    e: Event,
-) -> Result<(), Memory>
+pub(crate) fn put_event(lists: &mut Vec<Vec<Event>>, place: usize, e: Event) -> Result<(), Memory>
     ensures { OnOk result (map (λ v. v.items) lists.new.items ≡ put_behind (map (λ v. v.items) lists.old.items) place e) }
 {
     if place >= lists.len() {

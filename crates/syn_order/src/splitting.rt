@@ -11,9 +11,9 @@ ghost use Rattle.syn_order.specs.inner.Lists.{at_place};
 use crate::errors::OrderError;
 use crate::followed::Followed;
 use crate::lists::{no_events, put_event};
-use crate::task_lists::TaskLists;
 use ada_tree::Memory;
 use event_machine::Event;
+use seq_file::TaskLists;
 use std::alloc::Global;
 use syn_event::Numbers;
 

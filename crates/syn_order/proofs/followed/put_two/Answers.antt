@@ -1,7 +1,6 @@
 use Rattle.std.specs.Prelude.{nat_lt}
 use Rattle.common_lemmas.proofs.Numbers.{unequal}
 use Rattle.common_lemmas.proofs.Results.{on_ok}
-use Rattle.event_machine.specs.Soundness.{times}
 use Rattle.syn_order.proofs.Touching.{put_two_same, put_two_other}
 use Rattle.syn_order.proofs.followed.put_two.Goals as goal
 

@@ -1,27 +1,21 @@
-use Rattle.std.proofs.Common.{◌≡◌, ◌+◌, ◌<◌, ◌∙◌, ◌++◌, [], refl, ap, sym, subst, length, map, replicate, take, tt, inl, inr, ⊎_elim}
+use Rattle.std.proofs.Common.{◌+◌, ◌<◌, ◌∙◌, [], refl, ap, sym, subst, length, map, take}
 use Rattle.std.proofs.lemmas.List.{length-map, length-replicate}
-use Rattle.event_machine.specs.Soundness.{times}
-use Rattle.event_machine.specs.progress.Known.{Known, known}
 use Rattle.syn_event.specs.Numbering.{Numbering, owner_of}
 use Rattle.syn_order.specs.inner.Lists.{at_place}
 use Rattle.syn_order.proofs.Placing.{empty_at}
 use Rattle.syn_order.proofs.Following.{admitted_further, known_further, known_tasks}
-use Rattle.syn_order.proofs.Dealing.{split_further}
+use Rattle.syn_order.proofs.Dealing.{split_further, source_of}
+use Rattle.syn_order.proofs.Neighbours.{refused_or}
 use Rattle.syn_order.proofs.splitting.split.Goals as goal
-
--- as many lists as there are tasks
-count_is : (c : goal.In_ok-lists) → length c.as_slice.result.now ≡ length c.args.numbers.now.tasks
-count_is c = ap length c.as_slice.ensures.value ∙ ap (λ (n : Numbering). length n.tasks) c.numbers.view_is
 
 pub loop-e-init : goal.loop-e-init
 loop-e-init c =
-    let n = length c.args.numbers.now.tasks in
     record {
       counted = refl;
       admitted = tt;
       is_known = c.in_ok-followed.ensures.known;
       callers = c.in_ok-followed.ensures.callers;
-      many = sym (length-map c.in_ok-lists.lists.items (λ v. v.items)) ∙ ap length c.in_ok-lists.ensures ∙ length-replicate _ [] ∙ count_is c;
+      many = sym (length-map c.in_ok-lists.lists.items (λ v. v.items)) ∙ ap length c.in_ok-lists.ensures ∙ length-replicate _ [] ∙ (ap length c.as_slice.ensures.value ∙ ap (λ (m : Numbering). length m.tasks) c.numbers.view_is);
       lists = λ u l. ap (λ ls. at_place ls u) c.in_ok-lists.ensures ∙ empty_at _ u;
     }
 
@@ -38,7 +32,23 @@ loop-e-preserved c =
       callers = c.in_ok-advance.ensures.callers;
       many = c.in_ok-put_for_each.ensures.count ∙ h.many;
       lists = split_further owner n c.args.events.now c.loop-e.e-index _ c.loop-e.followed.progress (map (λ v. v.items) c.loop-e.lists.items) (map (λ v. v.items) c.put_for_each.new.lists.items)
-          c.put_touched.new.touched.items c.loop-e-test.true h.is_known (known_tasks owner n (take c.loop-e.e-index c.args.events.now) c.loop-e.followed.progress h.is_known)
-          c.in_ok-put_touched.ensures h.lists
-          (λ u l. subst (λ xs. at_place (map (λ v. v.items) c.put_for_each.new.lists.items) u ≡ at_place (map (λ v. v.items) c.loop-e.lists.items) u ++ replicate (times u xs) c.loop-e-item.result) c.deref-2.ensures.value (c.in_ok-put_for_each.ensures.each u (subst (λ m. u < m) (sym h.many) l)));
+          c.put_touched.new.touched.items c.deref.result.now c.loop-e-test.true c.deref.ensures.value h.is_known
+          (known_tasks owner n (take c.loop-e.e-index c.args.events.now) c.loop-e.followed.progress h.is_known) c.in_ok-put_touched.ensures h.lists
+          (λ u l. c.in_ok-put_for_each.ensures.each u (subst (λ m. u < m) (sym h.many) l));
     }
+
+pub put_touched-requires-clause-tasks : goal.put_touched-requires-clause-tasks
+put_touched-requires-clause-tasks c =
+    known_tasks (owner_of c.args.numbers.now) (length c.args.numbers.now.tasks) (take c.loop-e.e-index c.args.events.now) c.loop-e.followed.progress c.loop-e.invariant.is_known
+
+pub returns-then-not-admits-clause-refused : goal.returns-then-not-admits-clause-refused
+returns-then-not-admits-clause-refused c =
+    let h = c.loop-e.invariant in
+    refused_or (owner_of c.args.numbers.now) (length c.args.numbers.now.tasks) c.args.events.now c.loop-e.e-index _ c.loop-e.followed.progress c.not_admitted.result _ c.loop-e-test.true
+    h.is_known h.admitted (ap (λ m. m + 1) h.counted) c.not_admitted.ensures (sym c.admits.ensures ∙ c.if-not-admits.true)
+
+pub returns-clause-lists : goal.returns-clause-lists
+returns-clause-lists c =
+    let h = c.loop-e.invariant in
+    source_of (owner_of c.args.numbers.now) (length c.args.numbers.now.tasks) c.args.events.now c.loop-e.e-index (map (λ v. v.items) c.loop-e.lists.items) c.loop-e-test.false h.admitted
+    (length-map c.loop-e.lists.items (λ v. v.items) ∙ h.many) h.lists

@@ -1,4 +1,4 @@
-use Rattle.std.proofs.Common.{◌≡◌, ◌∙◌, ap, length}
+use Rattle.std.proofs.Common.{◌∙◌, ap, length}
 use Rattle.syn_event.specs.Numbering.{Numbering}
 use Rattle.syn_order.proofs.Keeping.{kept_at_start}
 use Rattle.syn_order.proofs.followed.Followed.new.Goals as goal

@@ -1,4 +1,4 @@
-use Rattle.std.proofs.Common.{◌≡◌, ◌+◌, ◌∙◌, ◌&&◌, ◌||◌, ◌==◌, if◌then◌else◌, ap, sym, subst, length, map}
+use Rattle.std.proofs.Common.{◌+◌, ◌∙◌, ◌&&◌, ◌||◌, ◌==◌, if◌then◌else◌, ap, sym, subst, length, map}
 use Rattle.std.specs.Prelude.{nat_lt}
 use Rattle.common_lemmas.proofs.Results.{on_ok}
 use Rattle.event_machine.specs.Soundness.{times}
