@@ -25,10 +25,18 @@ module _ (f : ℕ → ℕ) (r : IsRenaming f) where
   -- ---- the table
 
   add_mark_same : (types : TypeTable) (m : Mark) → add_mark (renamed_types f types) (renamed_mark f m) ≡ renamed_types f (add_mark types m)
-  add_mark_same types m = λ i. record { kinds = map (renamed_kind f) types.kinds; marks = sym (map-append (renamed_mark f) types.marks (m ∷ [])) i; constants = map (renamed_constant f) types.constants }
+  add_mark_same types m = λ i. record {
+    kinds = map (renamed_kind f) types.kinds;
+    marks = sym (map-append (renamed_mark f) types.marks (m ∷ [])) i;
+    constants = map (renamed_constant f) types.constants;
+  }
 
   add_kind_same : (types : TypeTable) (k : Kind) → add_kind (renamed_types f types) (renamed_kind f k) ≡ renamed_types f (add_kind types k)
-  add_kind_same types k = λ i. record { kinds = sym (map-append (renamed_kind f) types.kinds (k ∷ [])) i; marks = map (renamed_mark f) types.marks; constants = map (renamed_constant f) types.constants }
+  add_kind_same types k = λ i. record {
+    kinds = sym (map-append (renamed_kind f) types.kinds (k ∷ [])) i;
+    marks = map (renamed_mark f) types.marks;
+    constants = map (renamed_constant f) types.constants;
+  }
 
   made_same : (types : TypeTable) (m : Mark) → made (renamed_types f types) (renamed_mark f m) ≡ renamed_made f (made types m)
   made_same types m = λ i. record { types = add_mark_same types m i; mark = Some (length-map types.marks (renamed_mark f) i) }
@@ -47,7 +55,8 @@ module _ (f : ℕ → ℕ) (r : IsRenaming f) where
   subind_by scope UnclearMark o = refl
 
   subind_same : (scope : Scope) (x : PSubind) → made_subind (renamed_scope f scope) (renamed_subind f x) ≡ renamed_made f (made_subind scope x)
-  subind_same scope x = ap (λ m. subind_made (renamed_scope f scope) m (option_map (renamed_bounds f) x.bounds)) (marking_same f r scope x.mark.name) ∙ subind_by scope (marking scope x.mark.name) x.bounds
+  subind_same scope x = ap (λ m. subind_made (renamed_scope f scope) m (option_map (renamed_bounds f) x.bounds)) (marking_same f r scope x.mark.name)
+      ∙ subind_by scope (marking scope x.mark.name) x.bounds
 
   given_by_kind : (scope : Scope) (o : Option ℕ) (b : PBounds) → given_range (renamed_scope f scope) o (renamed_bounds f b) ≡ given_range scope o b
   given_by_kind scope None b = refl
@@ -68,9 +77,11 @@ module _ (f : ℕ → ℕ) (r : IsRenaming f) where
 
   drange_same : (scope : Scope) (x : PDrange) → drange_range (renamed_scope f scope) (renamed_drange f x) ≡ drange_range scope x
   drange_same scope (RGiven b) = ap (λ o. given_range (renamed_scope f scope) o (renamed_bounds f b)) (kind_same f r scope b.first) ∙ given_by_kind scope (kind_of scope b.first) b
-  drange_same scope (RMarked x) = ap (λ m. marked_range (renamed_scope f scope) m (option_map (renamed_bounds f) x.bounds)) (marking_same f r scope x.mark.name) ∙ marked_by scope (marking scope x.mark.name) x.bounds
+  drange_same scope (RMarked x) = ap (λ m. marked_range (renamed_scope f scope) m (option_map (renamed_bounds f) x.bounds)) (marking_same f r scope x.mark.name)
+      ∙ marked_by scope (marking scope x.mark.name) x.bounds
 
-  array_by : (o : Option NameId) (types : TypeTable) (range : Option Range) (part : Option ℕ) → made_array (option_map (renamed_id f) o) (renamed_types f types) range part ≡ renamed_made f (made_array o types range part)
+  array_by : (o : Option NameId) (types : TypeTable) (range : Option Range) (part : Option ℕ) →
+      made_array (option_map (renamed_id f) o) (renamed_types f types) range part ≡ renamed_made f (made_array o types range part)
   array_by o types None None = refl
   array_by o types None (Some m) = refl
   array_by o types (Some range) None = refl
@@ -81,7 +92,8 @@ module _ (f : ℕ → ℕ) (r : IsRenaming f) where
 
   -- the mark of an array, from the marks of its components
   array_same : (o : Option NameId) (scope : Scope) (d : PDrange) (x : PSubind) →
-      made_array (option_map (renamed_id f) o) (made_subind (renamed_scope f scope) (renamed_subind f x)).types (drange_range (renamed_scope f scope) (renamed_drange f d)) (made_subind (renamed_scope f scope) (renamed_subind f x)).mark
+      made_array (option_map (renamed_id f) o) (made_subind (renamed_scope f scope) (renamed_subind f x)).types (drange_range (renamed_scope f scope) (renamed_drange f d))
+      (made_subind (renamed_scope f scope) (renamed_subind f x)).mark
       ≡ renamed_made f (made_array o (made_subind scope x).types (drange_range scope d) (made_subind scope x).mark)
   array_same o scope d x = (λ i. made_array (option_map (renamed_id f) o) (subind_same scope x i).types (drange_same scope d i) (subind_same scope x i).mark)
       ∙ array_by o (made_subind scope x).types (drange_range scope d) (made_subind scope x).mark
@@ -107,10 +119,12 @@ module _ (f : ℕ → ℕ) (r : IsRenaming f) where
   task_array_same false None entries = refl
   task_array_same false (Some range) entries = refl
 
-  made_object : (scope : Scope) (constant : Bool) (x : PSubind) → of_made constant (made_subind (renamed_scope f scope) (renamed_subind f x)) ≡ renamed_declared f (of_made constant (made_subind scope x))
+  made_object : (scope : Scope) (constant : Bool) (x : PSubind) →
+      of_made constant (made_subind (renamed_scope f scope) (renamed_subind f x)) ≡ renamed_declared f (of_made constant (made_subind scope x))
   made_object scope constant x = ap (of_made constant) (subind_same scope x) ∙ of_made_same constant (made_subind scope x)
 
-  plain_by : (scope : Scope) (constant : Bool) (m : Marking) (x : PSubind) → plain_object (renamed_scope f scope) constant (renamed_marking f m) (renamed_subind f x) ≡ renamed_declared f (plain_object scope constant m x)
+  plain_by : (scope : Scope) (constant : Bool) (m : Marking) (x : PSubind) →
+      plain_object (renamed_scope f scope) constant (renamed_marking f m) (renamed_subind f x) ≡ renamed_declared f (plain_object scope constant m x)
   plain_by scope constant (TaskMark entries) x = λ i. record { types = renamed_types f scope.types; thing = task_object_same scope.in_main entries i }
   plain_by scope constant (ArrayMark m range part) x = λ i. record { types = renamed_types f scope.types; thing = object_by constant (Some m) i }
   plain_by scope constant (ScalarMark m k) x = made_object scope constant x
@@ -119,13 +133,19 @@ module _ (f : ℕ → ℕ) (r : IsRenaming f) where
   plain_by scope constant UnclearMark x = made_object scope constant x
 
   own_array : (scope : Scope) (constant : Bool) (d : PDrange) (x : PSubind) →
-      of_made constant (made_array None (made_subind (renamed_scope f scope) (renamed_subind f x)).types (drange_range (renamed_scope f scope) (renamed_drange f d)) (made_subind (renamed_scope f scope) (renamed_subind f x)).mark)
+      of_made constant (made_array None (made_subind (renamed_scope f scope) (renamed_subind f x)).types (drange_range (renamed_scope f scope) (renamed_drange f d))
+      (made_subind (renamed_scope f scope) (renamed_subind f x)).mark)
       ≡ renamed_declared f (of_made constant (made_array None (made_subind scope x).types (drange_range scope d) (made_subind scope x).mark))
-  own_array scope constant d x = ap (of_made constant) (array_same None scope d x) ∙ of_made_same constant (made_array None (made_subind scope x).types (drange_range scope d) (made_subind scope x).mark)
+  own_array scope constant d x = ap (of_made constant) (array_same None scope d x)
+      ∙ of_made_same constant (made_array None (made_subind scope x).types (drange_range scope d) (made_subind scope x).mark)
 
   array_object_by : (scope : Scope) (constant : Bool) (m : Marking) (d : PDrange) (x : PSubind) →
       array_object (renamed_scope f scope) constant (renamed_marking f m) (renamed_drange f d) (renamed_subind f x) ≡ renamed_declared f (array_object scope constant m d x)
-  array_object_by scope constant (TaskMark entries) d x = (λ i. record { types = renamed_types f scope.types; thing = task_array scope.in_main (drange_same scope d i) (map (renamed_entry_part f) entries) })
+  array_object_by scope constant (TaskMark entries) d x = (λ i. record {
+    types = renamed_types f scope.types;
+    thing = task_array scope.in_main (drange_same scope d i)
+        (map (renamed_entry_part f) entries);
+  })
       ∙ (λ i. record { types = renamed_types f scope.types; thing = task_array_same scope.in_main (drange_range scope d) entries i })
   array_object_by scope constant (ArrayMark m range part) d x = own_array scope constant d x
   array_object_by scope constant (ScalarMark m k) d x = own_array scope constant d x
@@ -134,7 +154,8 @@ module _ (f : ℕ → ℕ) (r : IsRenaming f) where
   array_object_by scope constant UnclearMark d x = own_array scope constant d x
 
   declared_same : (scope : Scope) (constant : Bool) (x : PShape) → declared_object (renamed_scope f scope) constant (renamed_shape f x) ≡ renamed_declared f (declared_object scope constant x)
-  declared_same scope constant (OPlain x) = ap (λ m. plain_object (renamed_scope f scope) constant m (renamed_subind f x)) (marking_same f r scope x.mark.name) ∙ plain_by scope constant (marking scope x.mark.name) x
+  declared_same scope constant (OPlain x) = ap (λ m. plain_object (renamed_scope f scope) constant m (renamed_subind f x)) (marking_same f r scope x.mark.name)
+      ∙ plain_by scope constant (marking scope x.mark.name) x
   declared_same scope constant (OArray d x) = ap (λ m. array_object (renamed_scope f scope) constant m (renamed_drange f d) (renamed_subind f x)) (marking_same f r scope x.mark.name)
       ∙ array_object_by scope constant (marking scope x.mark.name) d x
 
@@ -143,7 +164,8 @@ module _ (f : ℕ → ℕ) (r : IsRenaming f) where
   constants_same : (ws : List Word) (m : ℕ) (z : ℤ) → constants_for (map (renamed_word f) ws) m z ≡ map (renamed_constant f) (constants_for ws m z)
   constants_same ws m z = map_twice (renamed_word f) (λ w. record { name = w.name; mark = m; value = z }) (λ w. record { name = w.name; mark = m; value = z }) (renamed_constant f) (λ w. refl) ws
 
-  add_constants_same : (ws : List Word) (o : Option ℕ) (p : Option ℤ) (types : TypeTable) → add_constants (map (renamed_word f) ws) o p (renamed_types f types) ≡ renamed_types f (add_constants ws o p types)
+  add_constants_same : (ws : List Word) (o : Option ℕ) (p : Option ℤ) (types : TypeTable) →
+      add_constants (map (renamed_word f) ws) o p (renamed_types f types) ≡ renamed_types f (add_constants ws o p types)
   add_constants_same ws None None types = refl
   add_constants_same ws None (Some z) types = refl
   add_constants_same ws (Some m) None types = refl
@@ -154,7 +176,8 @@ module _ (f : ℕ → ℕ) (r : IsRenaming f) where
   }
 
   kind_at_mark_same : (types : TypeTable) (m : ℕ) → kind_at_mark (renamed_types f types) m ≡ kind_at_mark types m
-  kind_at_mark_same types m = ap (λ o. unwrap_or o 0) (ap (option_map (λ (x : Mark). x.kind)) (mark_at_same f r types m) ∙ option_once (renamed_mark f) (λ x. x.kind) (λ x. x.kind) (λ x. refl) (mark_at types m))
+  kind_at_mark_same types m = ap (λ o. unwrap_or o 0) (ap (option_map (λ (x : Mark). x.kind)) (mark_at_same f r types m)
+      ∙ option_once (renamed_mark f) (λ x. x.kind) (λ x. x.kind) (λ x. refl) (mark_at types m))
 
   constant_mark_same : (x : Thing) → constant_mark (renamed_thing f x) ≡ constant_mark x
   constant_mark_same (ConstantObject m) = refl
@@ -181,13 +204,16 @@ module _ (f : ℕ → ℕ) (r : IsRenaming f) where
   constant_by : (scope : Scope) (types : TypeTable) (o : Option ℕ) (init : Option PInit) →
       constant_value (renamed_scope f scope) (renamed_types f types) o (option_map (renamed_init f) init) ≡ constant_value scope types o init
   constant_by scope types None init = refl
-  constant_by scope types (Some m) init = ap (λ k. initial_value (renamed_scope f scope) k (option_map (renamed_init f) init)) (kind_at_mark_same types m) ∙ initial_same scope (kind_at_mark types m) init
+  constant_by scope types (Some m) init = ap (λ k. initial_value (renamed_scope f scope) k (option_map (renamed_init f) init)) (kind_at_mark_same types m)
+      ∙ initial_same scope (kind_at_mark types m) init
 
   added_constants : (scope : Scope) (ws : List Word) (init : Option PInit) (d : Declared) →
-      add_constants (map (renamed_word f) ws) (constant_mark (renamed_thing f d.thing)) (constant_value (renamed_scope f scope) (renamed_types f d.types) (constant_mark (renamed_thing f d.thing)) (option_map (renamed_init f) init)) (renamed_types f d.types)
+      add_constants (map (renamed_word f) ws) (constant_mark (renamed_thing f d.thing))
+      (constant_value (renamed_scope f scope) (renamed_types f d.types) (constant_mark (renamed_thing f d.thing)) (option_map (renamed_init f) init)) (renamed_types f d.types)
       ≡ renamed_types f (add_constants ws (constant_mark d.thing) (constant_value scope d.types (constant_mark d.thing) init) d.types)
   added_constants scope ws init d =
-      ap (λ o. add_constants (map (renamed_word f) ws) o (constant_value (renamed_scope f scope) (renamed_types f d.types) o (option_map (renamed_init f) init)) (renamed_types f d.types)) (constant_mark_same d.thing)
+      ap (λ o. add_constants (map (renamed_word f) ws) o (constant_value (renamed_scope f scope) (renamed_types f d.types) o (option_map (renamed_init f) init))
+      (renamed_types f d.types)) (constant_mark_same d.thing)
       ∙ (ap (λ p. add_constants (map (renamed_word f) ws) (constant_mark d.thing) p (renamed_types f d.types)) (constant_by scope d.types (constant_mark d.thing) init)
       ∙ add_constants_same ws (constant_mark d.thing) (constant_value scope d.types (constant_mark d.thing) init) d.types)
 
@@ -204,7 +230,8 @@ module _ (f : ℕ → ℕ) (r : IsRenaming f) where
   after_object_same : (scope : Scope) (ws : List Word) (constant : Bool) (shape : PShape) (init : Option PInit) →
       after_object (renamed_scope f scope) (map (renamed_word f) ws) constant (renamed_shape f shape) (option_map (renamed_init f) init) ≡ renamed_scope f (after_object scope ws constant shape init)
   after_object_same scope ws constant shape init =
-      ap (λ (d : Declared). with_names d.thing (with_types (with_constants (renamed_scope f scope) (map (renamed_word f) ws) (option_map (renamed_init f) init) d) (renamed_scope f scope)) (map (renamed_word f) ws))
+      ap (λ (d : Declared). with_names d.thing (with_types (with_constants (renamed_scope f scope) (map (renamed_word f) ws) (option_map (renamed_init f) init) d)
+      (renamed_scope f scope)) (map (renamed_word f) ws))
       (declared_same scope constant shape)
       ∙ (ap (λ t. with_names (renamed_thing f (declared_object scope constant shape).thing) (with_types t (renamed_scope f scope)) (map (renamed_word f) ws))
       (with_constants_same scope ws init (declared_object scope constant shape))
@@ -213,20 +240,29 @@ module _ (f : ℕ → ℕ) (r : IsRenaming f) where
   enumerated : (scope : Scope) (w : Word) (ws : List Word) →
       (made (add_kind (renamed_types f scope.types) (Enumeration (map (λ v. v.name) (map (renamed_word f) ws))))
       record { name = Some (renamed_id f w.name); kind = length (map (renamed_kind f) scope.types.kinds); first = pos 0; last = pos (length (map (renamed_word f) ws)) -ℤ pos 1 }).types
-      ≡ renamed_types f (made (add_kind scope.types (Enumeration (map (λ v. v.name) ws))) record { name = Some w.name; kind = length scope.types.kinds; first = pos 0; last = pos (length ws) -ℤ pos 1 }).types
+      ≡ renamed_types f (made (add_kind scope.types (Enumeration
+      (map (λ v. v.name) ws))) record { name = Some w.name; kind = length scope.types.kinds; first = pos 0; last = pos (length ws) -ℤ pos 1 }).types
   enumerated scope w ws =
       (λ i. (made (add_kind (renamed_types f scope.types) (Enumeration (map_twice (renamed_word f) (λ v. v.name) (λ v. v.name) (renamed_id f) (λ v. refl) ws i)))
       record { name = Some (renamed_id f w.name); kind = length-map scope.types.kinds (renamed_kind f) i; first = pos 0; last = pos (length-map ws (renamed_word f) i) -ℤ pos 1 }).types)
       ∙ ((λ i. (made (add_kind_same scope.types (Enumeration (map (λ v. v.name) ws)) i)
       record { name = Some (renamed_id f w.name); kind = length scope.types.kinds; first = pos 0; last = pos (length ws) -ℤ pos 1 }).types)
-      ∙ ap (λ (m : Made). m.types) (made_same (add_kind scope.types (Enumeration (map (λ v. v.name) ws))) record { name = Some w.name; kind = length scope.types.kinds; first = pos 0; last = pos (length ws) -ℤ pos 1 }))
+      ∙ ap (λ (m : Made). m.types) (made_same (add_kind scope.types
+      (Enumeration (map (λ v. v.name) ws))) record { name = Some w.name; kind = length scope.types.kinds; first = pos 0; last = pos (length ws) -ℤ pos 1 }))
 
-  after_enumeration_same : (scope : Scope) (w : Word) (ws : List Word) → after_enumeration (renamed_scope f scope) (renamed_word f w) (map (renamed_word f) ws) ≡ renamed_scope f (after_enumeration scope w ws)
+  after_enumeration_same : (scope : Scope) (w : Word) (ws : List Word) →
+      after_enumeration (renamed_scope f scope) (renamed_word f w) (map (renamed_word f) ws) ≡ renamed_scope f (after_enumeration scope w ws)
   after_enumeration_same scope w ws =
-      (λ i. with_names (Literal (length-map scope.types.kinds (renamed_kind f) i)) (with_name (TypeMark (length-map scope.types.marks (renamed_mark f) i)) (with_types (enumerated scope w ws i) (renamed_scope f scope)) (renamed_word f w))
+      (λ i. with_names (Literal (length-map scope.types.kinds (renamed_kind f) i))
+      (with_name (TypeMark (length-map scope.types.marks (renamed_mark f) i)) (with_types (enumerated scope w ws i) (renamed_scope f scope)) (renamed_word f w))
       (map (renamed_word f) ws))
       ∙ with_names_same (Literal (length scope.types.kinds)) (with_name (TypeMark (length scope.types.marks))
-      (with_types (made (add_kind scope.types (Enumeration (map (λ v. v.name) ws))) record { name = Some w.name; kind = length scope.types.kinds; first = pos 0; last = pos (length ws) -ℤ pos 1 }).types scope) w) ws
+      (with_types (made (add_kind scope.types (Enumeration (map (λ v. v.name) ws))) record {
+        name = Some w.name;
+        kind = length scope.types.kinds;
+        first = pos 0;
+        last = pos (length ws) -ℤ pos 1;
+      }).types scope) w) ws
 
   type_by : (o : Option ℕ) → type_of_mark o ≡ renamed_thing f (type_of_mark o)
   type_by None = refl
@@ -259,9 +295,15 @@ module _ (f : ℕ → ℕ) (r : IsRenaming f) where
   family_same scope (Some d) = ap family_of (drange_same scope d)
 
   formal_same : (scope : Scope) (x : PFormal) →
-      map (λ w. record { name = w.name; mode = x.mode; mark = renamed_id f x.mark.name; kind = scalar_kind (marking (renamed_scope f scope) (renamed_id f x.mark.name)) }) (map (renamed_word f) x.names)
+      map (λ w. record { name = w.name; mode = x.mode; mark = renamed_id f x.mark.name; kind = scalar_kind (marking (renamed_scope f scope) (renamed_id f x.mark.name)) })
+      (map (renamed_word f) x.names)
       ≡ map (renamed_formal_part f) (map (λ w. record { name = w.name; mode = x.mode; mark = x.mark.name; kind = scalar_kind (marking scope x.mark.name) }) x.names)
-  formal_same scope x = map_twice (renamed_word f) (λ w. record { name = w.name; mode = x.mode; mark = renamed_id f x.mark.name; kind = scalar_kind (marking (renamed_scope f scope) (renamed_id f x.mark.name)) })
+  formal_same scope x = map_twice (renamed_word f) (λ w. record {
+    name = w.name;
+    mode = x.mode;
+    mark = renamed_id f x.mark.name;
+    kind = scalar_kind (marking (renamed_scope f scope) (renamed_id f x.mark.name));
+  })
       (λ w. record { name = w.name; mode = x.mode; mark = x.mark.name; kind = scalar_kind (marking scope x.mark.name) }) (renamed_formal_part f)
       (λ w i. record { name = renamed_id f w.name; mode = x.mode; mark = renamed_id f x.mark.name; kind = scalar_same f r scope x.mark.name i }) x.names
 
@@ -330,7 +372,8 @@ module _ (f : ℕ → ℕ) (r : IsRenaming f) where
   after_objects_same scope no_decl = refl
   after_objects_same scope (decl_then d rest) = ap (λ s. after_objects s (renamed_decls f rest)) (after_own_same scope d) ∙ after_objects_same (after_own_object scope d) rest
 
-  body_types : (scope : Scope) (w : Word) (ds : PDecls) → (after_objects (in_body (renamed_scope f scope) (renamed_word f w)) (renamed_decls f ds)).types ≡ renamed_types f (after_objects (in_body scope w) ds).types
+  body_types : (scope : Scope) (w : Word) (ds : PDecls) → (after_objects (in_body (renamed_scope f scope) (renamed_word f w)) (renamed_decls f ds)).types
+      ≡ renamed_types f (after_objects (in_body scope w) ds).types
   body_types scope w ds = ap (λ (s : Scope). s.types) (ap (λ s. after_objects s (renamed_decls f ds)) (in_body_same scope w) ∙ after_objects_same (in_body scope w) ds)
 
   -- ---- declarations
@@ -338,7 +381,8 @@ module _ (f : ℕ → ℕ) (r : IsRenaming f) where
   after_decl_same : (scope : Scope) (d : PDecl) → after_decl (renamed_scope f scope) (renamed_decl f d) ≡ renamed_scope f (after_decl scope d)
   after_decl_same scope (DNumber w e s) =
       ap (λ t. with_name (ConstantObject 0) (with_types t (renamed_scope f scope)) (renamed_word f w))
-      (ap (λ o. add_constants (renamed_word f w ∷ []) (Some 0) o (renamed_types f scope.types)) (static_same f r scope integer_kind e) ∙ add_constants_same (w ∷ []) (Some 0) (static_in scope integer_kind e) scope.types)
+      (ap (λ o. add_constants (renamed_word f w ∷ []) (Some 0) o (renamed_types f scope.types)) (static_same f r scope integer_kind e)
+      ∙ add_constants_same (w ∷ []) (Some 0) (static_in scope integer_kind e) scope.types)
   after_decl_same scope (DObject ws constant shape init s) = after_object_same scope ws constant shape init
   after_decl_same scope (DEnumeration w ws s) = after_enumeration_same scope w ws
   after_decl_same scope (DArray w d x s) = ap (after_type (renamed_scope f scope) (renamed_word f w)) (array_same (Some w.name) scope d x) ∙ after_type_same scope w (made_named_array scope w d x)
@@ -367,10 +411,14 @@ module _ (f : ℕ → ℕ) (r : IsRenaming f) where
   before_same = λ i. record {
     types = record {
       kinds = Integer ∷ Truth ∷ [];
-      marks = first_mark (k0 i) 0 (negsuc 2147483647) (pos 2147483647) ∷ first_mark (k1 i) 0 (pos 0) (pos 2147483647) ∷ first_mark (k2 i) 0 (pos 1) (pos 2147483647) ∷ first_mark (k3 i) 1 (pos 0) (pos 1) ∷ [];
+      marks = first_mark (k0 i) 0 (negsuc 2147483647) (pos 2147483647) ∷ first_mark (k1 i) 0 (pos 0) (pos 2147483647) ∷ first_mark (k2 i) 0 (pos 1)
+          (pos 2147483647) ∷ first_mark (k3 i) 1 (pos 0) (pos 1) ∷ [];
       constants = [];
     };
-    names = seen_as (TypeMark 0) (k0 i) ∷ seen_as (TypeMark 1) (k1 i) ∷ seen_as (TypeMark 2) (k2 i) ∷ seen_as (TypeMark 3) (k3 i) ∷ seen_as (Literal truth_kind) (k4 i) ∷ seen_as (Literal truth_kind) (k5 i) ∷ seen_as AnException (k6 i) ∷ seen_as AnException (k7 i) ∷ seen_as AnException (k8 i) ∷ seen_as AnException (k9 i) ∷ seen_as AnException (k10 i) ∷ seen_as AnException (k11 i) ∷ seen_as AnotherUnit (k12 i) ∷ seen_as AnotherUnit (k13 i) ∷ seen_as AnotherUnit (k14 i) ∷ seen_as AnotherUnit (k15 i) ∷ seen_as AnotherUnit (k16 i) ∷ seen_as AnotherUnit (k17 i) ∷ [];
+    names = seen_as (TypeMark 0) (k0 i) ∷ seen_as (TypeMark 1) (k1 i) ∷ seen_as (TypeMark 2) (k2 i) ∷ seen_as (TypeMark 3) (k3 i) ∷ seen_as (Literal truth_kind)
+        (k4 i) ∷ seen_as (Literal truth_kind) (k5 i) ∷ seen_as AnException (k6 i) ∷ seen_as AnException (k7 i) ∷ seen_as AnException (k8 i) ∷ seen_as AnException
+        (k9 i) ∷ seen_as AnException (k10 i) ∷ seen_as AnException (k11 i) ∷ seen_as AnotherUnit (k12 i) ∷ seen_as AnotherUnit (k13 i) ∷ seen_as AnotherUnit
+        (k14 i) ∷ seen_as AnotherUnit (k15 i) ∷ seen_as AnotherUnit (k16 i) ∷ seen_as AnotherUnit (k17 i) ∷ [];
     here = [];
     in_main = true;
     own = [];

@@ -53,7 +53,8 @@ module _ (f : ℕ → ℕ) (r : IsRenaming f) where
   stored_by vars None v = refl
   stored_by vars (Some id) v = then_kept f r (renamed_vars f) (checked_for (object_named vars id) v) _ _ _ (checked_for_same f r vars id v) (λ w. ap Ok (set_value_same f r vars id 0 w))
 
-  stored_same : (vars : Variables) (e : PExpr) (v : Value) → stored_back (renamed_vars f vars) (variable_of (renamed_expr f e)) v ≡ renamed_result f (renamed_vars f) (stored_back vars (variable_of e) v)
+  stored_same : (vars : Variables) (e : PExpr) (v : Value) → stored_back (renamed_vars f vars) (variable_of (renamed_expr f e)) v
+      ≡ renamed_result f (renamed_vars f) (stored_back vars (variable_of e) v)
   stored_same vars e v = ap (λ o. stored_back (renamed_vars f vars) o v) (variable_same e) ∙ stored_by vars (variable_of e) v
 
   copies_same : (more more' : Variables → Copies) → ((vars : Variables) → more' (renamed_vars f vars) ≡ renamed_copies f (more vars)) → (vars : Variables) (x : Result Variables Raised) →
@@ -144,12 +145,14 @@ module _ (f : ℕ → ℕ) (r : IsRenaming f) where
     body_opened_same : (caller : ℕ) (xs : List FormalParameter) (its behind : PStmts) (vs : List Value) (t : Task) →
         body_opened caller (map (renamed_parameter f) xs) (stmts' its) (stmts' behind) vs (again t) ≡ again (body_opened caller xs its behind vs t)
     body_opened_same caller xs its behind vs t = λ i. with_control (again t)
-        (control (stmts' its) (Opened caller (map (renamed_parameter f) xs) None) (record { rest = rest_same i; place = renamed_around f (place_of t) } ∷ map (renamed_frame f) (outer_of t)) (vars_same i))
+        (control (stmts' its) (Opened caller (map (renamed_parameter f) xs) None)
+        (record { rest = rest_same i; place = renamed_around f (place_of t) } ∷ map (renamed_frame f) (outer_of t)) (vars_same i))
       where
         rest_same : in_front (stmts' behind) (behind_in (stmts' (rest_of t))) ≡ stmts' (in_front behind (behind_of t))
         rest_same = ap (in_front (stmts' behind)) (behind_in_same (rest_of t)) ∙ in_front_same f r behind (behind_of t)
 
-        vars_same : opened_objects (renamed_types f t.setting.types) (map (renamed_parameter f) xs) vs ++ renamed_vars f (vars_of t) ≡ renamed_vars f (opened_objects t.setting.types xs vs ++ vars_of t)
+        vars_same : opened_objects (renamed_types f t.setting.types) (map (renamed_parameter f) xs) vs ++ renamed_vars f (vars_of t)
+            ≡ renamed_vars f (opened_objects t.setting.types xs vs ++ vars_of t)
         vars_same = ap (λ os. os ++ renamed_vars f (vars_of t)) (opened_same f r t.setting.types xs vs) ∙ sym (map-append (renamed_object f) (opened_objects t.setting.types xs vs) (vars_of t))
 
     opened_by : (caller : ℕ) (o : Option Open) (vs : List Value) (t : Task) → alternative_opened caller (option_map (renamed_open f) o) vs (again t) ≡ again (alternative_opened caller o vs t)
@@ -172,7 +175,8 @@ module _ (f : ℕ → ℕ) (r : IsRenaming f) where
 
     frame_left_same : (t : Task) (parts : List PFrame) → frame_left (again t) (map (renamed_frame f) parts) ≡ again (frame_left t parts)
     frame_left_same t [] = refl
-    frame_left_same t (part ∷ parts) = ap (λ vs. with_control (again t) (control (stmts' part.rest) (renamed_around f part.place) (map (renamed_frame f) parts) vs)) (own_dropped f r (place_of t) (vars_of t))
+    frame_left_same t (part ∷ parts) = ap (λ vs. with_control (again t) (control (stmts' part.rest) (renamed_around f part.place) (map (renamed_frame f) parts) vs))
+        (own_dropped f r (place_of t) (vars_of t))
 
     closed_same : (place : Around) (t : Task) → body_closed (renamed_around f place) (again t) ≡ again (body_closed place t)
     closed_same (OwnBody handlers taken) t = refl
@@ -198,7 +202,8 @@ module _ (f : ℕ → ℕ) (r : IsRenaming f) where
 
     copies_at_same : (t : Task) (o : Option PCall) (vs : List Value) → copies_at (again t) (option_map (renamed_call f) o) vs ≡ renamed_copies f (copies_at t o vs)
     copies_at_same t None vs = refl
-    copies_at_same t (Some call) vs = ap (λ x. call_ended (again t) (renamed_call f call) x vs) (called_same f r names t.setting (vars_of t) call) ∙ ended_same t call (called t.setting (vars_of t) call) vs
+    copies_at_same t (Some call) vs = ap (λ x. call_ended (again t) (renamed_call f call) x vs) (called_same f r names t.setting (vars_of t) call)
+        ∙ ended_same t call (called t.setting (vars_of t) call) vs
 
     copies_of_same : (t : Task) (vs : List Value) → copies_of (again t) vs ≡ renamed_copies f (copies_of t vs)
     copies_of_same t vs = ap (λ o. copies_at (again t) o vs) (call_in_same f r (rest_of t)) ∙ copies_at_same t (call_in (rest_of t)) vs

@@ -26,7 +26,6 @@ use Rattle.ada_value.specs.declared.values.Value.TheVariants.{Number, Place, Tru
 use Rattle.same_runs.proofs.Lists.{find_mapped, if_like, option_once, position_mapped}
 use Rattle.same_runs.specs.Renamed.{IsRenaming, KeepsTexts, renamed_bounds, renamed_constant, renamed_drange, renamed_expr, renamed_id, renamed_kind, renamed_mark, renamed_part, renamed_types}
 use Rattle.same_runs.specs.RenamedValues.{renamed_object, renamed_result, renamed_vars}
-use Rattle.ada_value.specs.declared.values.Raised.TheVariants as raised
 use Rattle.ada_tree.specs.declared.static_types.Kind.TheVariants as kind
 use Rattle.ada_tree.specs.declared.expressions.UnaryOp.TheVariants as unary
 use Rattle.ada_tree.specs.declared.expressions.BinaryOp.TheVariants.{And, Or, Xor, AndThen, OrElse, Equal, NotEqual, Less, LessEqual, Greater, GreaterEqual, Plus, Minus, Times, Divide, Mod, Rem}
@@ -267,7 +266,8 @@ module _ (f : ℕ → ℕ) (r : IsRenaming f) where
   attribute_like types limits _ v = refl
 
   attribute_here : (types : TypeTable) (m w : NameId) (v : Value) →
-      attribute_value (renamed_types f types) (limits_named (renamed_types f types) (renamed_id f m)) (attribute_of (renamed_id f w)) v ≡ kept (attribute_value types (limits_named types m) (attribute_of w) v)
+      attribute_value (renamed_types f types) (limits_named (renamed_types f types) (renamed_id f m)) (attribute_of (renamed_id f w)) v
+      ≡ kept (attribute_value types (limits_named types m) (attribute_of w) v)
   attribute_here types m w v = (λ i. attribute_value (renamed_types f types) (limits_named_same types m i) (attribute_same w i) v) ∙ attribute_like types (limits_named types m) (attribute_of w) v
 
   -- ---- expressions
@@ -324,7 +324,8 @@ module _ (f : ℕ → ℕ) (r : IsRenaming f) where
   image_same before after keeps types (Place k n) = ap (λ o. literal_text after o n) (kind_at_same types k) ∙ literal_text_same before after keeps (slice_get types.kinds k) n
 
   number_like : (types : TypeTable) (vars : Variables) (e : PExpr) →
-      and_then (evaluated (renamed_types f types) (renamed_vars f vars) (renamed_expr f e)) (λ v. Ok (integer_text (position_of v))) ≡ kept (and_then (evaluated types vars e) (λ v. Ok (integer_text (position_of v))))
+      and_then (evaluated (renamed_types f types) (renamed_vars f vars) (renamed_expr f e)) (λ v. Ok (integer_text (position_of v)))
+      ≡ kept (and_then (evaluated types vars e) (λ v. Ok (integer_text (position_of v))))
   number_like types vars e = then_kept (λ (t : List ℕ). t) (evaluated types vars e) _ _ _ (evaluated_same types vars e) (λ v. refl)
 
   output_same : (before after : List (List ℕ)) → KeepsTexts f before after → (types : TypeTable) (vars : Variables) (e : PExpr) →

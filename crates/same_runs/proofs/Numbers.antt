@@ -63,7 +63,8 @@ module _ (f : ℕ → ℕ) (r : IsRenaming f) where
   of_type_same : (o : Option PTask) (ws : List Word) (d : Option PDrange) →
       task_names_of_type (option_map (renamed_task f) o) (map (renamed_word f) ws) (option_map (renamed_drange f) d) ≡ map (renamed_named f) (task_names_of_type o ws d)
   of_type_same None ws d = refl
-  of_type_same (Some t) ws d = map_twice (renamed_word f) (λ w. named_tasks w w.span (renamed_task f t) (option_map (renamed_drange f) d)) (λ w. named_tasks w w.span t d) (renamed_named f) (λ w. refl) ws
+  of_type_same (Some t) ws d = map_twice (renamed_word f) (λ w. named_tasks w w.span (renamed_task f t) (option_map (renamed_drange f) d)) (λ w. named_tasks w w.span t d)
+      (renamed_named f) (λ w. refl) ws
 
   object_names_same : (kinds : List PTask) (ws : List Word) (x : PShape) →
       object_task_names (map (renamed_task f) kinds) (map (renamed_word f) ws) (renamed_shape f x) ≡ map (renamed_named f) (object_task_names kinds ws x)
@@ -148,7 +149,8 @@ module _ (f : ℕ → ℕ) (r : IsRenaming f) where
         entries_of_tasks after (renamed_types f types) t (map (renamed_numbered f) xs) ≡ map (renamed_entry_info f) (entries_of_tasks before types t xs)
     entries_same types t [] = refl
     entries_same types t (x ∷ rest) =
-        (λ i. map_twice (renamed_entry f) (entry_of_task after (renamed_types f types) t (renamed_numbered f x)) (entry_of_task before types t x) (renamed_entry_info f) (entry_same types t x) x.unit.entries i
+        (λ i. map_twice (renamed_entry f) (entry_of_task after (renamed_types f types) t (renamed_numbered f x)) (entry_of_task before types t x) (renamed_entry_info f)
+        (entry_same types t x) x.unit.entries i
         ++ entries_same types (t + 1) rest i)
         ∙ sym (map-append (renamed_entry_info f) (map (entry_of_task before types t x) x.unit.entries) (entries_of_tasks before types (t + 1) rest))
 

@@ -65,9 +65,11 @@ module _ (f : ℕ → ℕ) (r : IsRenaming f) where
 
   plain_by : (types : TypeTable) (x : PSubind) (o : Option Mark) → plain_form (renamed_types f types) (renamed_subind f x) (option_map (renamed_mark f) o) ≡ plain_form types x o
   plain_by types x None = refl
-  plain_by types x (Some m) = ap Some (ap (λ (form : Form). marked_form (renamed_types f types) (renamed_subind f x) (renamed_mark f m) form.index) (of_mark_same types m) ∙ marked_by types x m (form_of_mark types m).index)
+  plain_by types x (Some m) = ap Some (ap (λ (form : Form). marked_form (renamed_types f types) (renamed_subind f x) (renamed_mark f m) form.index) (of_mark_same types m)
+      ∙ marked_by types x m (form_of_mark types m).index)
 
-  array_by : (types : TypeTable) (d : PDrange) (x : PSubind) (o : Option Mark) → array_form (renamed_types f types) (renamed_drange f d) (renamed_subind f x) (option_map (renamed_mark f) o) ≡ array_form types d x o
+  array_by : (types : TypeTable) (d : PDrange) (x : PSubind) (o : Option Mark) →
+      array_form (renamed_types f types) (renamed_drange f d) (renamed_subind f x) (option_map (renamed_mark f) o) ≡ array_form types d x o
   array_by types d x None = refl
   array_by types d x (Some m) = λ i. Some record { limits = indicated_same types m x.bounds i; index = Some (range_known i) }
     where
@@ -76,7 +78,8 @@ module _ (f : ℕ → ℕ) (r : IsRenaming f) where
 
   form_same : (types : TypeTable) (x : PShape) → form_of (renamed_types f types) (renamed_shape f x) ≡ form_of types x
   form_same types (OPlain x) = ap (plain_form (renamed_types f types) (renamed_subind f x)) (mark_named_same f r types x.mark.name) ∙ plain_by types x (mark_named types x.mark.name)
-  form_same types (OArray d x) = ap (array_form (renamed_types f types) (renamed_drange f d) (renamed_subind f x)) (mark_named_same f r types x.mark.name) ∙ array_by types d x (mark_named types x.mark.name)
+  form_same types (OArray d x) = ap (array_form (renamed_types f types) (renamed_drange f d) (renamed_subind f x)) (mark_named_same f r types x.mark.name)
+      ∙ array_by types d x (mark_named types x.mark.name)
 
   -- ---- initial values
 
@@ -95,7 +98,8 @@ module _ (f : ℕ → ℕ) (r : IsRenaming f) where
 
   -- ---- the objects of a unit
 
-  object_same : (types : TypeTable) (form : Form) (o : Option PInit) (w : Word) → object_of (renamed_types f types) form (option_map (renamed_init f) o) (renamed_word f w) ≡ renamed_object f (object_of types form o w)
+  object_same : (types : TypeTable) (form : Form) (o : Option PInit) (w : Word) →
+      object_of (renamed_types f types) form (option_map (renamed_init f) o) (renamed_word f w) ≡ renamed_object f (object_of types form o w)
   object_same types form o w = λ i. record { name = renamed_id f w.name; limits = form.limits; index = form.index; values = initials_same types form o i }
 
   with_objects_same : (types : TypeTable) (form : Form) (o : Option PInit) (ws : List Word) (vars : Variables) →
@@ -109,7 +113,8 @@ module _ (f : ℕ → ℕ) (r : IsRenaming f) where
       declared_objects (renamed_types f types) in_main (map (renamed_word f) ws) constant (option_map (renamed_init f) init) o (renamed_vars f vars)
       ≡ renamed_vars f (declared_objects types in_main ws constant init o vars)
   declared_by types in_main ws constant init None vars = refl
-  declared_by types in_main ws constant init (Some form) vars = if_like (renamed_vars f) (is_in_types in_main constant form) (is_in_types in_main constant form) refl refl (with_objects_same types form init ws vars)
+  declared_by types in_main ws constant init (Some form) vars = if_like (renamed_vars f) (is_in_types in_main constant form) (is_in_types in_main constant form) refl refl
+      (with_objects_same types form init ws vars)
 
   after_same : (types : TypeTable) (in_main : Bool) (d : PDecl) (vars : Variables) →
       after_declaration (renamed_types f types) in_main (renamed_decl f d) (renamed_vars f vars) ≡ renamed_vars f (after_declaration types in_main d vars)

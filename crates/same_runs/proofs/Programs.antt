@@ -59,7 +59,8 @@ module _ (R : Task → Task → Type 0) (one other : ProgramWithInputs) (numbers
     (each : (t : ℕ) → R (started (setting_of one numbers) one.inputs t) (started (setting_of other others) other.inputs t)) where
   first_alike : (n : ℕ) → AllZip (SeatsAlike R) (first_tasks one numbers n) (first_tasks other others n)
   first_alike zero = tt
-  first_alike (suc n) = zip_append (SeatsAlike R) (first_tasks one numbers n) (first_tasks other others n) (live (started (setting_of one numbers) one.inputs n) ∷ []) (live (started (setting_of other others) other.inputs n) ∷ [])
+  first_alike (suc n) = zip_append (SeatsAlike R) (first_tasks one numbers n) (first_tasks other others n) (live (started (setting_of one numbers) one.inputs n) ∷ [])
+      (live (started (setting_of other others) other.inputs n) ∷ [])
       (first_alike n) (record { local = each n; standing = refl }, tt)
 
   seats_alike : R nobody nobody → (n m : ℕ) → n ≡ m → (t : ℕ) →
@@ -106,7 +107,8 @@ module _ (p q : PProgram) (named : IsNamed p) (others : IsNameTable q.names) (sa
   for_second = names_there q.names p.names others named.names all
 
   one_setting : (inputs : List (List ℤ)) →
-      renamed_setting f all (setting_of (record { program = p; types = types_in p; inputs = inputs }) (numbers_of p)) ≡ renamed_setting g all (setting_of (record { program = q; types = types_in q; inputs = inputs }) (numbers_of q))
+      renamed_setting f all (setting_of (record { program = p; types = types_in p; inputs = inputs }) (numbers_of p))
+      ≡ renamed_setting g all (setting_of (record { program = q; types = types_in q; inputs = inputs }) (numbers_of q))
   one_setting inputs = λ i. record {
     program = (ap (λ ns. renamed_program f ns p) for_first ∙ (one_program ∙ sym (ap (λ ns. renamed_program g ns q) for_second))) i;
     types = one_types i;
@@ -160,7 +162,8 @@ module _ (p q : PProgram) (named : IsNamed p) (others : IsNameTable q.names) (sa
 
   states_alike : (inputs : List (List ℤ)) → StatesAlike (TasksAlike f g r s all) (starting p inputs).at (starting q inputs).at
   states_alike inputs = record {
-    seats = seats_alike (TasksAlike f g r s all) (record { program = p; types = types_in p; inputs = inputs }) (record { program = q; types = types_in q; inputs = inputs }) (numbers_of p) (numbers_of q)
+    seats = seats_alike (TasksAlike f g r s all) (record { program = p; types = types_in p; inputs = inputs }) (record { program = q; types = types_in q; inputs = inputs })
+        (numbers_of p) (numbers_of q)
         (started_alike inputs) nobody_alike (length (numbers_of p).tasks) (length (numbers_of q).tasks) count_same;
     line = refl;
     ended = refl;

@@ -13,7 +13,7 @@ use Rattle.run_laws.specs.imitation.Shown.{Opened}
 use Rattle.same_runs.specs.Alike.{ProgramsAlike, RunAlike, SeatsAlike, StatesAlike}
 use Rattle.event_machine.specs.declared.Action.TheVariants.{Local, Arrive, Start, Finish, Else, Delay, CallElse, Expire, Fail, Complete, Abort, End}
 use Rattle.event_machine.specs.declared.Event.TheVariants.{R as RendezvousEvent, C as CallElseEvent, T as ExpireEvent, F}
-use Rattle.event_machine.specs.declared.Standing.TheVariants.{Live, Waiting, Queued, Served, Completed, Killed}
+use Rattle.event_machine.specs.declared.Standing.TheVariants.{Served, Completed, Killed}
 
 -- ---- what is asked of a task
 
@@ -178,7 +178,8 @@ module _ {L K : Type 0} (R : L → K → Type 0) (p : Program L) (q : Program K)
   }
 
   freed_state : (s : State (ℕ → Seat L)) (u : State (ℕ → Seat K)) → StatesAlike R s u → (t : ℕ) (f : L → L) (g : K → K) → ((l : L) (k : K) → R l k → R (f l) (g k)) →
-      StatesAlike R (record { seats = freed (on_numbers p.size) f s.seats t; line = s.line; ended = s.ended }) (record { seats = freed (on_numbers q.size) g u.seats t; line = u.line; ended = u.ended })
+      StatesAlike R (record { seats = freed (on_numbers p.size) f s.seats t; line = s.line; ended = s.ended })
+      (record { seats = freed (on_numbers q.size) g u.seats t; line = u.line; ended = u.ended })
   freed_state s u h t f g k = record { seats = freed_alike s.seats u.seats h.seats t f g k; line = h.line; ended = h.ended }
 
   left_state : (s : State (ℕ → Seat L)) (u : State (ℕ → Seat K)) → StatesAlike R s u → (t : ℕ) (f : L → L) (g : K → K) → ((l : L) (k : K) → R l k → R (f l) (g k)) →

@@ -163,7 +163,8 @@ module _ (f : ℕ → ℕ) (r : IsRenaming f) where
   value_same types (EIndex w e s) = refl
   value_same types (EAttribute m w s) = (λ i. Ok (bound_of (attribute_same f r w.name i) (mark_named_same f r types m.name i))) ∙ ap Ok (bound_by (attribute_of w.name) (mark_named types m.name))
   value_same types (EAttributeOf m w e s) = do_like _ _ (value_of types e) _ (value_same types e)
-      (λ z. (λ i. attribute_at (renamed_types f types) (mark_named_same f r types m.name i) (attribute_same f r w.name i) no_span z) ∙ attribute_like types (mark_named types m.name) (attribute_of w.name) s z)
+      (λ z. (λ i. attribute_at (renamed_types f types) (mark_named_same f r types m.name i) (attribute_same f r w.name i) no_span z)
+      ∙ attribute_like types (mark_named types m.name) (attribute_of w.name) s z)
   value_same types (EParen e s) = value_same types e
   value_same types (EUnary op e s) = do_like _ _ (value_of types e) _ (value_same types e) (λ z. signed_like op s z)
   value_same types (EBinary op l q s) = operated_like op s _ _ _ _ (value_same types l) (value_same types q)
@@ -266,7 +267,8 @@ module _ (f : ℕ → ℕ) (r : IsRenaming f) where
   pub kind_same : (scope : Scope) (e : PExpr) → kind_of (renamed_scope f scope) (renamed_expr f e) ≡ kind_of scope e
   kind_same scope (EInteger n s) = refl
   kind_same scope (EName id s) = ap name_kind (reading_same scope id)
-  kind_same scope (EIndex w e s) = (λ i. component_kind (renamed_types f scope.types) (reading_same scope w.name i) (kind_same scope e i)) ∙ component_by scope.types (reading scope w.name) (kind_of scope e)
+  kind_same scope (EIndex w e s) = (λ i. component_kind (renamed_types f scope.types) (reading_same scope w.name i) (kind_same scope e i))
+      ∙ component_by scope.types (reading scope w.name) (kind_of scope e)
   kind_same scope (EAttribute m w s) = λ i. and_then (bound_kind (attribute_same f r w.name i)) (scalar_same scope m.name i)
   kind_same scope (EAttributeOf m w e s) = λ i. attribute_kind (attribute_same f r w.name i) (scalar_same scope m.name i) (kind_same scope e i)
   kind_same scope (EParen e s) = kind_same scope e

@@ -88,8 +88,10 @@ module _ (f : ℕ → ℕ) (r : IsRenaming f) (names : List (List ℕ)) where
   arms_same t (arm_then (arm e stmts) rest) otherwise = then_kept f r (renamed_maybe f) (condition t e) _ _ _ (test_same t e)
       (λ b. if_like (renamed_result f (renamed_maybe f)) b b refl refl (arms_same t rest otherwise))
 
-  if_same : (arms : PArms) (otherwise : PMaybe) (behind : PStmts) (t : Task) → if_step (renamed_arms f arms) (renamed_maybe f otherwise) (stmts' behind) (again t) ≡ again (if_step arms otherwise behind t)
-  if_same arms otherwise behind t = or_raised_like f r names (renamed_maybe f) (λ branch. entered (stmts_or_none branch) behind t) (λ branch. entered (stmts_or_none branch) (stmts' behind) (again t)) t
+  if_same : (arms : PArms) (otherwise : PMaybe) (behind : PStmts) (t : Task) →
+      if_step (renamed_arms f arms) (renamed_maybe f otherwise) (stmts' behind) (again t) ≡ again (if_step arms otherwise behind t)
+  if_same arms otherwise behind t = or_raised_like f r names (renamed_maybe f) (λ branch. entered (stmts_or_none branch) behind t)
+      (λ branch. entered (stmts_or_none branch) (stmts' behind) (again t)) t
       (arm_taken t arms otherwise) _ (arms_same t arms otherwise) (branch_same behind t)
 
   end_same : (t : Task) (o : Option PExpr) (a : Value) → choice_end (again t) (option_map (renamed_expr f) o) a ≡ kept f r (choice_end t o a)
@@ -112,7 +114,8 @@ module _ (f : ℕ → ℕ) (r : IsRenaming f) (names : List (List ℕ)) where
 
   case_same : (e : PExpr) (arms : PCaseArms) (others : PMaybe) (behind : PStmts) (t : Task) →
       case_step (renamed_expr f e) (renamed_case_arms f arms) (renamed_maybe f others) (stmts' behind) (again t) ≡ again (case_step e arms others behind t)
-  case_same e arms others behind t = or_raised_like f r names (renamed_maybe f) (λ branch. entered (stmts_or_none branch) behind t) (λ branch. entered (stmts_or_none branch) (stmts' behind) (again t)) t
+  case_same e arms others behind t = or_raised_like f r names (renamed_maybe f) (λ branch. entered (stmts_or_none branch) behind t)
+      (λ branch. entered (stmts_or_none branch) (stmts' behind) (again t)) t
       (and_then (value_of t e) (λ v. case_taken t v arms others)) _
       (then_kept f r (renamed_maybe f) (value_of t e) _ _ _ (value_same t e) (λ v. case_arms_same t v arms others)) (branch_same behind t)
 
@@ -172,7 +175,8 @@ module _ (f : ℕ → ℕ) (r : IsRenaming f) (names : List (List ℕ)) where
   loop_same name None stmts behind t = pushed_same f r names stmts (Loop name Endless stmts) (vars_of t) behind t
   loop_same name (Some (LWhile e)) stmts behind t = or_raised_kept f r names
       (λ b. if b then pushed stmts (Loop name (While e) stmts) (vars_of t) behind t else gone_to behind t)
-      (λ b. if b then pushed (stmts' stmts) (Loop (option_map (renamed_word f) name) (While (renamed_expr f e)) (stmts' stmts)) (renamed_vars f (vars_of t)) (stmts' behind) (again t) else gone_to (stmts' behind) (again t))
+      (λ b. if b then pushed (stmts' stmts) (Loop (option_map (renamed_word f) name) (While (renamed_expr f e)) (stmts' stmts)) (renamed_vars f (vars_of t)) (stmts' behind)
+      (again t) else gone_to (stmts' behind) (again t))
       t (condition t e) _ (test_same t e) (λ b. if_like again b b refl (pushed_same f r names stmts (Loop name (While e) stmts) (vars_of t) behind t) (gone_same f r names behind t))
   loop_same name (Some (LFor w backwards x)) stmts behind t = or_raised_kept f r names
       (λ l. counting_begun name w backwards stmts behind t l)

@@ -129,7 +129,12 @@ module _ (n m : List (List ℕ)) (f g : ℕ → ℕ) (rules : Rules) (known : (a
   maybe_scheme_same k o p h s = option_alike (EveryScheme rules k) (SameScheme n m) (renamed_scheme f) (renamed_scheme g) (scheme_same k) o p h s
 
   head_same : (k : ℕ) (x y : PHead) → EveryHead rules k x → SameHead n m x y → renamed_head f x ≡ renamed_head g y
-  head_same k x y h s = λ i. record { entry = word_same x.entry y.entry h.0 s.0 i; index = index_same (k + 1) x.index y.index h.1 s.1 i; formals = formals_same x.formals y.formals h.2 s.2 i; span = no_span }
+  head_same k x y h s = λ i. record {
+    entry = word_same x.entry y.entry h.0 s.0 i;
+    index = index_same (k + 1) x.index y.index h.1 s.1 i;
+    formals = formals_same x.formals y.formals h.2 s.2 i;
+    span = no_span;
+  }
 
   callees_same : (k : ℕ) (xs ys : List PCallee) → All (EveryCallee rules k) xs → AllZip (SameCallee n m) xs ys → map (renamed_callee f) xs ≡ map (renamed_callee g) ys
   callees_same k xs ys h s = all_alike (EveryCallee rules k) (SameCallee n m) (renamed_callee f) (renamed_callee g) (callee_same k) xs ys h s

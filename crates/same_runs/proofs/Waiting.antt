@@ -28,7 +28,6 @@ use Rattle.same_runs.proofs.Settings.{callee_same, entry_parameters_same, entry_
 use Rattle.same_runs.specs.Renamed.{IsRenaming, renamed_accept, renamed_alt_kind, renamed_alts, renamed_args, renamed_call, renamed_callee, renamed_expr, renamed_head, renamed_maybe, renamed_stmt, renamed_stmts, renamed_types}
 use Rattle.same_runs.specs.RenamedTasks.{renamed_around, renamed_lists, renamed_numbers, renamed_open, renamed_parameter, renamed_setting, renamed_state}
 use Rattle.same_runs.specs.RenamedValues.{renamed_object, renamed_raised, renamed_result, renamed_vars}
-use Rattle.ada_value.specs.declared.values.Raised.TheVariants as raised
 use Rattle.event_machine.specs.declared.Choice.TheVariants as choice
 use Rattle.event_machine.specs.declared.CallForm.TheVariants as form
 
@@ -52,7 +51,8 @@ module _ (f : ℕ → ℕ) (r : IsRenaming f) where
   openings_same : (types : TypeTable) (vars : Variables) (xs : List FormalParameter) (es : List PExpr) →
       openings (renamed_types f types) (renamed_vars f vars) (map (renamed_parameter f) xs) (map (renamed_expr f) es) ≡ kept f r (openings types vars xs es)
   openings_same types vars [] es = refl
-  openings_same types vars (x ∷ xs) [] = then_kept f r (λ (vs : List Value). vs) (openings types vars xs []) _ _ _ (openings_same types vars xs []) (λ vs. ap (λ v. Ok (v ∷ vs)) (lower_same f r types x.limits))
+  openings_same types vars (x ∷ xs) [] = then_kept f r (λ (vs : List Value). vs) (openings types vars xs []) _ _ _ (openings_same types vars xs [])
+      (λ vs. ap (λ v. Ok (v ∷ vs)) (lower_same f r types x.limits))
   openings_same types vars (x ∷ xs) (e ∷ es) = then_kept f r (λ (vs : List Value). vs) (opening types vars x x.mode e) _ _ _ (opening_same types vars x x.mode e)
       (λ v. then_kept f r (λ (vs : List Value). vs) (openings types vars xs es) _ _ _ (openings_same types vars xs es) (λ vs. refl))
 
@@ -73,7 +73,8 @@ module _ (f : ℕ → ℕ) (r : IsRenaming f) where
     owner_called : (g : Setting) (vars : Variables) (call : PCall) (e : ℕ) →
         called_with (renamed_setting f names g) (renamed_vars f vars) e (lists_of (renamed_numbers f g.numbers) e (option_map (renamed_args f) call.args))
         ≡ kept f r (called_with g vars e (lists_of g.numbers e call.args))
-    owner_called g vars call e = ap (called_with (renamed_setting f names g) (renamed_vars f vars) e) (lists_same f r g.numbers e call.args) ∙ called_with_same g vars e (lists_of g.numbers e call.args)
+    owner_called g vars call e = ap (called_with (renamed_setting f names g) (renamed_vars f vars) e) (lists_same f r g.numbers e call.args)
+        ∙ called_with_same g vars e (lists_of g.numbers e call.args)
 
     pub called_same : (g : Setting) (vars : Variables) (call : PCall) → called (renamed_setting f names g) (renamed_vars f vars) (renamed_call f call) ≡ kept f r (called g vars call)
     called_same g vars call = then_kept f r (λ (c : Called). c) (callee_task g vars call.task) _ _ _ (callee_same f r names g vars call.task)
@@ -133,7 +134,8 @@ module _ (f : ℕ → ℕ) (r : IsRenaming f) where
     accepted_at t head o behind e = then_kept f r (renamed_open f) (member_index t.setting (vars_of t) e head.index) _ _ _ (member_index_same f r names t.setting (vars_of t) e head.index)
         (λ i. ap (λ k. Ok (Accepts e i (renamed_head f head) k (renamed_stmts f behind))) (or_none_same f r o))
 
-    accept_same : (t : Task) (a : PAccept) (behind : PStmts) → accept_opened (renamed_state f names t) (renamed_accept f a) (renamed_stmts f behind) ≡ renamed_result f (renamed_open f) (accept_opened t a behind)
+    accept_same : (t : Task) (a : PAccept) (behind : PStmts) → accept_opened (renamed_state f names t) (renamed_accept f a) (renamed_stmts f behind)
+        ≡ renamed_result f (renamed_open f) (accept_opened t a behind)
     accept_same t (accepting head o) behind =
         ap (λ e. and_then (member_index (renamed_setting f names t.setting) (renamed_vars f (vars_of t)) e (option_map (renamed_expr f) head.index))
         (λ i. Ok (Accepts e i (renamed_head f head) (stmts_or_none (renamed_maybe f o)) (renamed_stmts f behind)))) (entry_same f r t.setting.numbers t.number head.entry.name)
