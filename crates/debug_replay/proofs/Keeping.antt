@@ -1,6 +1,7 @@
 -- The text that is written replays the sequence, and else a limit is passed.
-use Rattle.std.proofs.Common.{◌≡◌, ◌<◌, ◌≤◌, ℕ, Bool, true, false, nat_lt, List, length, inl, inr, refl, sym, ap, ◌∙◌, subst, arith}
+use Rattle.std.proofs.Common.{◌≡◌, ◌<◌, ◌≤◌, ◌+◌, ◌^◌, ℕ, Bool, true, false, nat_lt, List, length, inl, inr, refl, sym, ap, ◌∙◌, subst, arith}
 use Rattle.std.proofs.lemmas.Bool.Decides.{nat_tests}
+use Rattle.ada_tree.specs.NameList.{predefined}
 use Rattle.ada_tree.specs.PlainProgram.{PProgram}
 use Rattle.ada_tree.specs.TypeTable.{TypeTable}
 use Rattle.ada_static_rules.specs.Refusals.{types_in}
@@ -19,11 +20,17 @@ use Rattle.replay_model.specs.Promised.{IsReplayText}
 use Rattle.replay_model.specs.ReplayTree.{most_events, replay_tree, replayed}
 use Rattle.replay_runs.specs.controls.replayed.Replaying.{ReplaysProgram}
 use Rattle.replay_runs.proofs.controls.replayed.Whole.{legal_texts_replay}
+use Rattle.same_runs.proofs.Replaying.{read_text_replays}
+use Rattle.text_laws.proofs.sizes.Read.{read_has_names}
 use Rattle.debug_outcome.specs.files.Wanting.{text_limit}
 use Rattle.debug_outcome.specs.Outcomes.{Outcome}
 use Rattle.debug_replay.specs.inner.Printing.{printed_outcome, replay_outcome, ComeTo}
 use Rattle.debug_replay.specs.ReplayOutcomes.{ReplaysLines}
 use Rattle.debug_replay.proofs.TextOutcomes.{long_by_length, short_by_length, outcome_within, outcome_beyond}
+
+-- the names of a text within the limit of a program have ids
+within_names : (n : ℕ) → n ≤ text_limit → length predefined + n ≤ 2 ^ 32
+within_names n short = omega (arith, short)
 
 -- What is so of a replay text, with the types and numbers that were found.
 record Holds (p : PProgram) (events : List Event) (types : TypeTable) (numbers : Numbering) : Type 0 where
@@ -56,6 +63,8 @@ module _ (p : PProgram) (legal : IsLegalOriginal p) (lines : List ℕ) where
           is_text = k.is_text;
           read_back = read_back (replay_tree p types numbers events) k.is_text.placed;
           replays = k.replays;
+          read_replays = λ again read same. read_text_replays p types numbers events (replay_tree p types numbers events) again legal.names k.is_text
+              (read_has_names (program_text (replay_tree p types numbers events)) again read (within_names _ short)) same k.replays;
           few = few;
           short = short;
           is = is ∙ sym (short_by_length (replay_tree p types numbers events) short);

@@ -1,7 +1,9 @@
 -- What replaying a sequence comes to: a text that replays it, a limit that is passed, or the fault of the first bad line (this project's rules).
 use Rattle.std.specs.Prelude.{◌≡◌, ◌<◌, ◌≤◌, ℕ, List, length, Option, Some, None, ◌⊎◌}
 use Rattle.ada_tree.specs.PlainProgram.{PProgram}
+use Rattle.ada_tree.specs.Same.{Same}
 use Rattle.ada_tree.specs.TypeTable.{TypeTable}
+use Rattle.ada_parser.specs.Reads.{Reads}
 use Rattle.ada_printer.specs.ProgramText.{program_text}
 use Rattle.event_machine.specs.declared.Event.{Event}
 use Rattle.syn_event.specs.Numbering.{Numbering}
@@ -21,7 +23,8 @@ use Rattle.debug_outcome.specs.sequences.BadSequences.{IsBadSequence}
 
 -- The lines are a sequence of the program with these types and numbers, and the outcome is the text of another program, their replay text. That is
 -- legal as a text of any kind and read back as the same. Whatever the inputs and the schedule, it shows nothing but events of the sequence, in order;
--- it can always go on to all that are feasible; and where it ends it has shown these (`Replays`). Both are within their limits.
+-- it can always go on to all that are feasible; and where it ends it has shown these (`Replays`). So does each program that is the same and is read from
+-- what is printed. Both are within their limits.
 pub record IsReplayWritten (p : PProgram) (types : TypeTable) (numbers : Numbering) (lines : List ℕ) (o : Outcome) : Type 0 where
   pub events : List Event
   pub reads : SeqReads lines numbers p.names events
@@ -29,6 +32,7 @@ pub record IsReplayWritten (p : PProgram) (types : TypeTable) (numbers : Numberi
   pub is_text : IsReplayText p types numbers events text
   pub read_back : IsReadAsSame text
   pub replays : ReplaysProgram p text events
+  pub read_replays : (again : PProgram) → Reads (program_text text) again → Same text again → ReplaysProgram p again events
   pub few : length events ≤ most_events
   pub short : length (program_text text) ≤ text_limit
   pub is : o ≡ writes (program_text text) 0
