@@ -1,7 +1,10 @@
 -- The promise in one statement: judging and replaying the same files.
 use Rattle.std.proofs.Common.{◌≡◌, ℕ, ℤ, List, length, Option, Some, None, inl, inr, sym, ap, ◌∙◌, subst}
 use Rattle.ada_tree.specs.PlainProgram.{PProgram}
+use Rattle.ada_tree.specs.Same.{Same}
 use Rattle.ada_tree.specs.TypeTable.{TypeTable}
+use Rattle.ada_parser.specs.Reads.{Reads}
+use Rattle.ada_printer.specs.ProgramText.{program_text}
 use Rattle.ada_static_rules.specs.Refusals.{types_in}
 use Rattle.event_machine.specs.declared.Event.{Event}
 use Rattle.syn_event.specs.declared.numbering.Mode.TheVariants.{Original}
@@ -31,6 +34,7 @@ use Rattle.debug_core.specs.LegalTexts.{IsRefusedText}
 use Rattle.debug_core.specs.Starts.{IsRefusedStart}
 use Rattle.debug_core.proofs.Following.{keeps_to}
 use Rattle.debug_core.proofs.OneStart.{legal_carries}
+use Rattle.debug_core.proofs.ReadingBack.{only_text}
 use Rattle.debug_core.proofs.ShortNumbers.{are_short}
 
 -- ---- what has written was not refused
@@ -100,9 +104,14 @@ module _ (text : List ℕ) (inputs : Option (List ℕ)) (lines : List ℕ) (boun
     read_back = w.read_back;
     written = w.is;
     keeps = kept w.text w.replays;
-    read_keeps = λ again read same. kept again (w.read_replays again read same);
+    read_keeps = λ again read. kept again (w.read_replays again read (same_read again read));
   }
     where
+      -- what is read from the text is the same program, since one alone is read from it
+      same_read : (again : PProgram) → Reads (program_text w.text) again → Same w.text again
+      same_read again read =
+          subst (λ (x : PProgram). Same w.text x) ((only_text (program_text w.text) again read).no_other w.read_back.0 w.read_back.1) w.read_back.2
+
       same_events : w.events ≡ v.events
       same_events = reads-unique p.names h.numbers (are_short p h.setup.types h.numbers Original h.is_start.is_legal.legal) lines w.events v.events w.reads v.reads
 

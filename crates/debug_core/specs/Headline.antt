@@ -7,7 +7,6 @@ use Rattle.event_machine.specs.Programs.{numbered}
 use Rattle.event_machine.specs.Runs.{IsRun}
 use Rattle.event_machine.specs.Tallies.{IsKilledIn}
 use Rattle.ada_tree.specs.PlainProgram.{PProgram}
-use Rattle.ada_tree.specs.Same.{Same}
 use Rattle.ada_parser.specs.Reads.{Reads}
 use Rattle.ada_printer.specs.ProgramText.{program_text}
 use Rattle.syn_event.specs.declared.numbering.Mode.TheVariants.{Original}
@@ -84,7 +83,7 @@ pub record KeepsToVerdict (setup : ProgramWithInputs) (numbers : Numbering) (eve
   pub keeps : (others : List (List ℤ)) → AgreeBelow (length numbers.tasks) setup.inputs others → KeepsTo events (opened setup numbers) (starting q others) (back_of (numbers_of q)) verdict
 
 -- The files hold a program, inputs and a sequence of it. The verdict that is told is that of the sequence, with why it is so. The text that is written is
--- the sequence's replay text. The program whose text it is, and each that is the same and is read from it, keeps to the verdict.
+-- the sequence's replay text. The program whose text it is, and whatever program is read from it, keeps to the verdict.
 pub record IsPromised (text : List ℕ) (inputs : Option (List ℕ)) (lines : List ℕ) (bound : ℕ) (judged replayed : Outcome) : Type 0 where
   pub setup : ProgramWithInputs
   pub numbers : Numbering
@@ -101,7 +100,7 @@ pub record IsPromised (text : List ℕ) (inputs : Option (List ℕ)) (lines : Li
   pub read_back : IsReadAsSame replay
   pub written : replayed ≡ writes (program_text replay) 0
   pub keeps : KeepsToVerdict setup numbers events verdict replay
-  pub read_keeps : (again : PProgram) → Reads (program_text replay) again → Same replay again → KeepsToVerdict setup numbers events verdict again
+  pub read_keeps : (again : PProgram) → Reads (program_text replay) again → KeepsToVerdict setup numbers events verdict again
 
 -- a call has written a text, with a status
 abbrev pub HasWritten : Outcome → Type 0
