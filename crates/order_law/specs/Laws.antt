@@ -72,7 +72,7 @@ JudgedIsAdmitted =
     (setup : ProgramWithInputs) (numbers : Numbering) (bound : ℕ) (events : List Event) → VerdictIs setup numbers bound events Feasible →
     IsFeasible setup numbers events × AreAdmitted (owner_of numbers) (known_first numbers) events
 
--- The premises are met: in each program the completions of two tasks touch no common task.
+-- The premise of `NeighboursExchange` is met: in each program the completions of two tasks touch no common task.
 abbrev pub CompletionsAreApart : Type 0
 CompletionsAreApart =
     (numbers : Numbering) (before : List Event) (t u : ℕ) → (t ≡ u → ⊥) →

@@ -33,7 +33,7 @@ pub record LawOfOrders (owner : ℕ → ℕ) (n : ℕ) (lists : List (List Event
 abbrev pub OrdersOfAll : Type 0
 OrdersOfAll = (owner : ℕ → ℕ) (n : ℕ) (lists : List (List Event)) → length lists ≡ n → LawOfOrders owner n lists
 
--- Two sequences have the same lists exactly where they differ only in the order of neighbours that are apart.
+-- Of two sequences the first is admitted: the second is admitted and has the same lists exactly where they differ only in the order of neighbours that are apart.
 abbrev pub SameListsAreAlike : Type 0
 SameListsAreAlike =
     (owner : ℕ → ℕ) (n : ℕ) (xs ys : List Event) → 0 < n → AreAdmitted owner (known_at_start n) xs →
