@@ -1,0 +1,11 @@
+pub mod Orders
+pub mod Offers
+pub mod Proposed
+pub mod Gathering
+pub mod Rising
+pub mod Delays
+pub mod Ending
+pub mod Letters
+pub mod Next
+pub mod Telling
+pub mod Whole

@@ -1,0 +1,12 @@
+//! Race variants: which events can come next after a feasible list of events, and which tasks are open there.
+//!
+//! `specs/Variants.antt` says what they are.
+#![tactic(auto)]
+
+mod adding;
+mod asking;
+mod finding;
+mod proposing;
+mod seeing;
+
+pub use finding::variants;
