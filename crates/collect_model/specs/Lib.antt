@@ -1,0 +1,13 @@
+pub mod Names
+pub mod Teller
+pub mod Noting
+pub mod Calling
+pub mod Serving
+pub mod Waiting
+pub mod CollectStmts
+pub mod Lines
+pub mod Recording
+pub mod CollectTree
+pub mod CollectNumbers
+pub mod FirstAbort
+pub mod Collected

@@ -1,0 +1,3 @@
+pub mod Looked
+pub mod Waited
+pub mod Rules
