@@ -1,2 +1,4 @@
 pub mod Copied
+pub mod Handled
+pub mod Images
 pub mod Turning

@@ -1,5 +1,6 @@
 -- One turn of the loop over alternatives.
-use Rattle.std.proofs.Common.{◌≡◌, ℕ, zero, suc, ◌+◌, ◌<◌, ◌≤◌, List, [], ◌∷◌, ◌++◌, length, map, take, get_or, slice_set, Result, Ok, Err, IfOk, refl, sym, ap, ◌∙◌, append_assoc, arith}
+use Rattle.std.proofs.Common.{◌≡◌, ℕ, zero, suc, ◌+◌, ◌<◌, ◌≤◌, List, [], ◌∷◌, ◌++◌, length, map, take, get_or, slice_set, Vec, Result, Ok, Err, IfOk, OnOk, refl, sym, ap, ◌∙◌, append_assoc, arith}
+use Rattle.std.specs.declared.alloc.Global.{Global}
 use Rattle.std.proofs.lemmas.List.{take_more, map-append}
 use Rattle.ada_tree.specs.declared.shortage.Memory.{Memory}
 use Rattle.ada_tree.specs.declared.statements.Alt.{Alt}
@@ -92,3 +93,15 @@ pub row-told :
     map plain_alt made ≡ [] ++ alternative_list v xs 1 →
     alts_of (map plain_alt made) ≡ alternatives_told v (alts_of xs) 1
 row-told v made xs are = ap alts_of are ∙ list-told v xs 1
+
+-- the same of a list that was kept
+pub kept-told :
+    (v : Teller) (xs : List PAlt) (none ys : List Alt) (done : Result (Unit {0}) Memory) (r : Result (Vec Alt Global) Memory) →
+    none ≡ [] →
+    OnOk done (map plain_alt ys ≡ map plain_alt none ++ alternative_list v xs 1) →
+    IfOk r (λ m. OkWith done (λ _. m.items ≡ ys)) →
+    IfOk r (λ m. alts_of (map plain_alt m.items) ≡ alternatives_told v (alts_of xs) 1)
+kept-told v xs none ys done (Err e) empty put kept = tt
+kept-told v xs none ys (Err e) (Ok m) empty put kept = absurd kept
+kept-told v xs none ys (Ok u) (Ok m) empty put kept =
+    row-told v m.items xs (ap (map plain_alt) kept ∙ put ∙ ap (λ l. map plain_alt l ++ alternative_list v xs 1) empty)

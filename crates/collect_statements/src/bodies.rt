@@ -1,4 +1,5 @@
 // The bodies of units.
+#![tactic(auto, using(ada_tree::proofs::Rows::rows, tree_rewriting::proofs::walking::Rows::walked, crate::proofs::Handled::handled))]
 
 ghost use Rattle.std.specs.Prelude.{◌≡◌, IfOk, OnOk, map};
 ghost use Rattle.ada_tree.specs.PlainStmt.{plain_body, plain_handler, handlers_of, seen, body, no_stmt, no_handler};

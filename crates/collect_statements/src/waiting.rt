@@ -1,7 +1,8 @@
 // Selective waits.
 
 ghost use Rattle.std.specs.Prelude.{◌≡◌, ◌++◌, IfOk, OnOk, map};
-ghost use Rattle.ada_tree.specs.PlainStmt.{plain_alt, plain_stmt, seen_maybe, alts_of, SWait};
+ghost use Rattle.ada_tree.specs.PlainStmt.{plain_alt, plain_stmt, seen, seen_maybe, alts_of, stmt_then, SWait};
+ghost use Rattle.collect_model.specs.Noting.{has_delay, own_note};
 ghost use Rattle.collect_model.specs.Waiting.{alternative_told, next_delay, alternatives_told, else_told};
 ghost use Rattle.collect_statements.specs.Waited.{alternative_list};
 ghost use Rattle.collect_statements.specs.Looked.{teller_of};
@@ -18,6 +19,19 @@ use replay_asking::making::before;
 use std::alloc::Global;
 use tree_rewriting::making::{keep_alts, push_alt, some_stmts, take_stmts};
 
+// The statements behind the k-th delay alternative, and the note in front of them.
+fn delay_told(
+    alloc: Global,
+    x: &Reporter,
+    stmts: Vec<Stmt>,
+    k: u32,
+    s: Span,
+) -> Result<Vec<Stmt>, Memory>
+    ensures { IfOk result (λ made. seen made.items ≡ stmt_then (own_note (teller_of x.now) s has_delay k) (seen stmts.items)) }
+{
+    before(alloc, own_note(alloc, x, HAS_DELAY, k, s), Ok(stmts))
+}
+
 // What stands in the place of an alternative, which is the k-th delay alternative if it is one. Its statements are taken from where they stand.
 fn alternative_told(alloc: Global, x: &Reporter, alt: &mut Alt, k: u32) -> Result<Alt, Memory>
     ensures { IfOk result (λ made. plain_alt made ≡ alternative_told (teller_of x.now) (plain_alt alt.old) k) }
@@ -30,8 +44,7 @@ fn alternative_told(alloc: Global, x: &Reporter, alt: &mut Alt, k: u32) -> Resul
             accept_alternative_of(guard, told, Ok(take_stmts(alloc, stmts)), s)
         }
         AltKind::Delay { thousandths, stmts } => {
-            let note = own_note(alloc, x, HAS_DELAY, k, s);
-            let behind = before(alloc, note, Ok(take_stmts(alloc, stmts)));
+            let behind = delay_told(alloc, x, take_stmts(alloc, stmts), k, s);
             delay_alternative_of(guard, *thousandths, behind, s)
         }
         AltKind::Terminate => terminate_alternative_of(guard, s),
