@@ -1,6 +1,6 @@
 // The variants of the events for which a judge stands.
 
-ghost use Rattle.std.specs.Prelude.{◌≡◌, ◌<◌, ◌^◌, ◌++◌, ◌∷◌, if◌then◌else◌, ℕ, List, [], true, take, length, option_copied, OnOk, OnErr};
+ghost use Rattle.std.specs.Prelude.{◌≡◌, ◌<◌, ◌^◌, ◌++◌, ◌∷◌, if◌then◌else◌, ℕ, List, [], true, false, take, length, option_copied, OnOk, OnErr};
 ghost use Rattle.event_machine.specs.declared.Event as event;
 ghost use Rattle.task_model.specs.Machine.{ProgramWithInputs};
 ghost use Rattle.feasible.specs.Keeping.{StandsFor, is_feasible};
@@ -36,12 +36,13 @@ pub fn variants(
     ensures bound { j.new.bound ≡ j.old.bound }
     ensures taken { j.new.taken ≡ j.old.taken }
     ensures verdict { OnOk result (j.new.verdict ≡ j.old.verdict) }
+    ensures kept { OnOk result (j.old.lost ≡ false) }
     ensures none { OnErr result ((found.new.items ≡ []) × (unsettled.new.items ≡ [])) }
     ensures lost { OnErr result (j.new.lost ≡ true) }
 {
     found.clear();
     unsettled.clear();
-    match find(alloc, j, numbers, skip, found, unsettled) {
+    match find_kept(alloc, j, numbers, skip, found, unsettled) {
         Ok(()) => Ok(()),
         Err(memory) => {
             found.clear();
@@ -53,6 +54,32 @@ pub fn variants(
 }
 
 // The same into empty lists; after want of memory they may have some.
+fn find_kept(
+    alloc: Global,
+    j: &mut Judge,
+    numbers: &Numbers,
+    skip: Option<&Event>,
+    found: &mut Vec<Event>,
+    unsettled: &mut Vec<u32>,
+) -> Result<(), Memory>
+    requires feasible { is_feasible j.old.verdict ≡ true }
+    requires numbers { numbers.now ≡ j.old.numbers }
+    requires none { found.old.items ≡ [] }
+    requires nobody { unsettled.old.items ≡ [] }
+    ensures variants { (setup : ProgramWithInputs) (events : List event.Event) → StandsFor setup events j.old → OnOk result (AreVariants setup j.old.numbers j.old.bound events (option_copied skip.entry) found.new.items unsettled.new.items) }
+    ensures stands { (setup : ProgramWithInputs) (events : List event.Event) → StandsFor setup events j.old → OnOk result (StandsFor setup events j.new) }
+    ensures same_numbers { j.new.numbers ≡ j.old.numbers }
+    ensures bound { j.new.bound ≡ j.old.bound }
+    ensures taken { j.new.taken ≡ j.old.taken }
+    ensures verdict { j.new.verdict ≡ j.old.verdict }
+    ensures kept { OnOk result (j.old.lost ≡ false) }
+{
+    // this tells whether the judge is lost, and changes nothing for which it stands
+    j.settle(0)?;
+    find(alloc, j, numbers, skip, found, unsettled)
+}
+
+// The same of a judge that is not lost.
 fn find(
     alloc: Global,
     j: &mut Judge,

@@ -8,8 +8,9 @@ use Rattle.event_machine.specs.declared.Event.TheVariants.{R, E, S, D, C, T, F, 
 use Rattle.event_machine.specs.Worlds.{is_last}
 use Rattle.event_machine.specs.progress.Known.{Party, Known, nobody, party, is_served_by, is_innermost, admits, suits, advanced, touches}
 use Rattle.event_machine.proofs.progress.Parties.{advanced_ended}
+use Rattle.control_script.proofs.Writing.{as_many}
 use Rattle.syn_order.specs.Apart.{AreApart}
-use Rattle.syn_order.proofs.Locality.{advanced_length, untouched, missed, Agree, suits_same, touched_same, new_server, touches_one}
+use Rattle.syn_order.proofs.Locality.{untouched, missed, Agree, suits_same, touched_same, new_server, touches_one}
 
 -- of two tests that are not both passed the second fails where the first is passed
 pub other_false : (a b : Bool) → (a && b) ≡ false → a ≡ true → b ≡ false
@@ -118,7 +119,7 @@ module _ (owner : ℕ → ℕ) (n : ℕ) (k : Known) (sized : length k.parties �
         party (advanced owner (advanced owner k e) f) u ≡ party (advanced owner (advanced owner k f) e) u
     at_touched e f p a b u l h =
         untouched owner (advanced owner k e) f u (touches_same e f p a u ∙ other_false (touches owner k e u) (touches owner k f u) (p u l) h)
-        ∙ sym (touched_same owner k (advanced owner k f) e (advanced_length owner k f) (kept f e (apart_turned owner n k e f p)) u h)
+        ∙ sym (touched_same owner k (advanced owner k f) e (as_many owner k f) (kept f e (apart_turned owner n k e f p)) u h)
 
     at_untouched : (u : ℕ) → touches owner k e u ≡ false → touches owner k f u ≡ false → party (advanced owner before f) u ≡ party (advanced owner behind e) u
     at_untouched u h g =
@@ -134,10 +135,10 @@ module _ (owner : ℕ → ℕ) (n : ℕ) (k : Known) (sized : length k.parties �
         go false false p q = at_untouched u p q
 
     length_before : length (advanced owner before f).parties ≡ n
-    length_before = advanced_length owner before f ∙ (advanced_length owner k e ∙ sized)
+    length_before = as_many owner before f ∙ (as_many owner k e ∙ sized)
 
     length_behind : length (advanced owner behind e).parties ≡ n
-    length_behind = advanced_length owner behind e ∙ (advanced_length owner k f ∙ sized)
+    length_behind = as_many owner behind e ∙ (as_many owner k f ∙ sized)
 
     parties_same : (advanced owner before f).parties ≡ (advanced owner behind e).parties
     parties_same = ext_get_or nobody (advanced owner before f).parties (advanced owner behind e).parties (length_before ∙ sym length_behind)

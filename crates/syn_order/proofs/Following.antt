@@ -5,9 +5,9 @@ use Rattle.event_machine.specs.declared.Event.{Event}
 use Rattle.event_machine.specs.progress.Known.{Known, known_at_start, known, known_from, admits, advanced, touches}
 use Rattle.event_machine.proofs.progress.Moves.{known_last}
 use Rattle.event_machine.proofs.progress.Parties.{idle_length}
+use Rattle.control_script.proofs.Writing.{as_many}
 use Rattle.syn_order.specs.Orders.{AreAdmitted, split}
 use Rattle.syn_order.specs.Refusals.{IsFirstRefused}
-use Rattle.syn_order.proofs.Locality.{advanced_length}
 
 -- ---- one event more
 
@@ -61,7 +61,7 @@ module _ (owner : ℕ → ℕ) (n : ℕ) (events : List Event) (i : ℕ) (d : Ev
 -- as many tasks are known as before
 pub known_length : (owner : ℕ → ℕ) (k : Known) (xs : List Event) → length (known_from owner k xs).parties ≡ length k.parties
 known_length owner k [] = refl
-known_length owner k (x ∷ xs) = known_length owner (advanced owner k x) xs ∙ advanced_length owner k x
+known_length owner k (x ∷ xs) = known_length owner (advanced owner k x) xs ∙ as_many owner k x
 
 pub known_tasks : (owner : ℕ → ℕ) (n : ℕ) (xs : List Event) (k : Known) → k ≡ known owner n xs → length k.parties ≡ n
 known_tasks owner n xs k q = ap (λ (m : Known). length m.parties) q ∙ known_length owner (known_at_start n) xs ∙ idle_length n

@@ -8,9 +8,10 @@ use Rattle.event_machine.specs.declared.Event.{Event}
 use Rattle.event_machine.specs.declared.Event.TheVariants.{R, E, S, D, C, T, F, X, B, Z}
 use Rattle.event_machine.specs.progress.Known.{Party, Known, party, known_at_start, is_closed, is_free, has_callers, admits, suits, part, complete, fall, meet, advanced}
 use Rattle.event_machine.proofs.progress.Parties.{idle_at, idle_length}
+use Rattle.control_script.proofs.Writing.{as_many}
 use Rattle.syn_order.specs.inner.Lists.{at_place}
 use Rattle.syn_order.specs.inner.Callers.{Serve, AreCallers, all_but_last, callers_after}
-use Rattle.syn_order.proofs.Locality.{beyond, free_below, advanced_length}
+use Rattle.syn_order.proofs.Locality.{beyond, free_below}
 use Rattle.syn_order.proofs.Placing.{empty_at}
 use Rattle.syn_order.proofs.Callers.{met_callers, parted_callers, fallen_callers, completed_callers, open_below, serve_advanced, serve_at_start}
 
@@ -61,7 +62,7 @@ module _ (owner : ℕ → ℕ) (k : Known) (stacks : List (List ℕ)) (h : AreCa
   same_callers m n g s = record { many = h.many ∙ sym n; kept = λ u. g u ∙ h.kept u; serve = s }
 
   pub kept_after : (e : Event) → admits owner k e ≡ true → AreCallers (advanced owner k e) (callers_after owner k e stacks)
-  kept_after e a = go e (and_parts (not k.ended) (suits owner k e) a).1 (advanced_length owner k e) (serve_advanced owner k e a h.serve)
+  kept_after e a = go e (and_parts (not k.ended) (suits owner k e) a).1 (as_many owner k e) (serve_advanced owner k e a h.serve)
     where
       go : (e : Event) → suits owner k e ≡ true → length (advanced owner k e).parties ≡ length k.parties → Serve (advanced owner k e) → AreCallers (advanced owner k e) (callers_after owner k e stacks)
       go (R c e i) f n s =

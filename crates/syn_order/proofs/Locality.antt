@@ -1,5 +1,5 @@
 -- What an event changes: a task that it does not touch is known as before, and what it makes of the tasks that it touches depends on these alone.
-use Rattle.std.proofs.Common.{◌≡◌, ℕ, ℤ, ◌<◌, ◌≤◌, Bool, true, false, not, ◌&&◌, ◌||◌, ◌==◌, if◌then◌else◌, List, [], ◌∷◌, length, map, Some, None, is_some, refl, sym, ap, ◌∙◌, subst, ⊎_elim, true≢false, length-set}
+use Rattle.std.proofs.Common.{◌≡◌, ℕ, ℤ, ◌<◌, ◌≤◌, Bool, true, false, not, ◌&&◌, ◌||◌, ◌==◌, if◌then◌else◌, List, [], ◌∷◌, length, Some, None, is_some, refl, sym, ap, ◌∙◌, subst, ⊎_elim, true≢false, length-set}
 use Rattle.std.proofs.lemmas.Bool.{cases_lt, eqb-true, and_parts, or_parts, or_left, or_right}
 use Rattle.std.proofs.lemmas.List.{get_or_past, length-map}
 use Rattle.common_lemmas.proofs.Numbers.{equal_self}
@@ -8,6 +8,7 @@ use Rattle.event_machine.specs.declared.Event.TheVariants.{R, E, S, D, C, T, F, 
 use Rattle.event_machine.specs.Worlds.{is_last}
 use Rattle.event_machine.specs.progress.Known.{Party, Known, nobody, party, is_closed, is_free, is_served_by, is_innermost, has_callers, admits, suits, put, part, fall, let_go, with_server, with_callers, advanced, touches}
 use Rattle.event_machine.proofs.progress.Parties.{known_below, put_self, put_other, all_let_go, let_go_at}
+use Rattle.control_script.proofs.Writing.{as_many}
 
 -- ---- tasks
 
@@ -18,28 +19,6 @@ beyond k u l = get_or_past k.parties u nobody l
 -- a free task is one of the tasks
 pub free_below : (k : Known) (t : ℕ) → is_free k t ≡ true → t < length k.parties
 free_below k t h = known_below (λ p. not p.closed && not (is_some p.server)) k t refl h
-
--- an event changes no number of tasks
-pub advanced_length : (owner : ℕ → ℕ) (k : Known) (e : Event) → length (advanced owner k e).parties ≡ length k.parties
-advanced_length owner k (R c e i) = length-set (put k (owner e) (with_callers (c ∷ (party k (owner e)).callers) (party k (owner e)))).parties c (with_server _ (party k c))
-    ∙ length-set k.parties (owner e) (with_callers (c ∷ (party k (owner e)).callers) (party k (owner e)))
-advanced_length owner k (E a) = go (party k a).callers
-  where
-    go : (callers : List ℕ) → length (part k a callers).parties ≡ length k.parties
-    go [] = refl
-    go (c ∷ callers) = length-set (put k a (with_callers callers (party k a))).parties c (with_server _ (party k c)) ∙ length-set k.parties a (with_callers callers (party k a))
-advanced_length owner k (S a) = refl
-advanced_length owner k (D a n) = refl
-advanced_length owner k (C c e i) = refl
-advanced_length owner k (T c e i) = refl
-advanced_length owner k (F c e i) = refl
-advanced_length owner k (X a) = length-set k.parties a (record { closed = true; server = (party k a).server; callers = (party k a).callers })
-advanced_length owner k (B t x) = go (is_closed k x)
-  where
-    go : (b : Bool) → length (if b then k else fall k x).parties ≡ length k.parties
-    go true = refl
-    go false = length-set (map (let_go x) k.parties) x (record { closed = true; server = (party k x).server; callers = [] }) ∙ length-map k.parties (let_go x)
-advanced_length owner k Z = refl
 
 -- ---- how a task is known after each write
 
@@ -141,12 +120,12 @@ unchanged owner k Z u h = absurd (true≢false h)
 -- A task that the event does not touch is known as before.
 pub untouched : (owner : ℕ → ℕ) (k : Known) (e : Event) (u : ℕ) → touches owner k e u ≡ false → party (advanced owner k e) u ≡ party k u
 untouched owner k e u h = ⊎_elim (λ l. changed_is owner k e u l ∙ unchanged owner k e u h)
-    (λ l. beyond (advanced owner k e) u (subst (λ n. n ≤ u) (sym (advanced_length owner k e)) l) ∙ sym (beyond k u l)) (cases_lt u (length k.parties))
+    (λ l. beyond (advanced owner k e) u (subst (λ n. n ≤ u) (sym (as_many owner k e)) l) ∙ sym (beyond k u l)) (cases_lt u (length k.parties))
 
 -- the same where it touches the task only past the last
 pub missed : (owner : ℕ → ℕ) (n : ℕ) (k : Known) (e : Event) (u : ℕ) → length k.parties ≡ n → (u < n → touches owner k e u ≡ false) → party (advanced owner k e) u ≡ party k u
 missed owner n k e u q h = ⊎_elim (λ l. untouched owner k e u (h (subst (λ m. u < m) q l)))
-    (λ l. beyond (advanced owner k e) u (subst (λ m. m ≤ u) (sym (advanced_length owner k e)) l) ∙ sym (beyond k u l)) (cases_lt u (length k.parties))
+    (λ l. beyond (advanced owner k e) u (subst (λ m. m ≤ u) (sym (as_many owner k e)) l) ∙ sym (beyond k u l)) (cases_lt u (length k.parties))
 
 -- ---- what the touched tasks decide
 
@@ -237,7 +216,7 @@ pub touched_same : (owner : ℕ → ℕ) (k m : Known) (e : Event) → length m.
     party (advanced owner m e) u ≡ party (advanced owner k e) u
 touched_same owner k m e n h u g = ⊎_elim
     (λ l. changed_is owner m e u (subst (λ s. u < s) (sym n) l) ∙ changed_same owner k m e h u g ∙ sym (changed_is owner k e u l))
-    (λ l. beyond (advanced owner m e) u (subst (λ s. s ≤ u) (sym (advanced_length owner m e ∙ n)) l) ∙ sym (beyond (advanced owner k e) u (subst (λ s. s ≤ u) (sym (advanced_length owner k e)) l)))
+    (λ l. beyond (advanced owner m e) u (subst (λ s. s ≤ u) (sym (as_many owner m e ∙ n)) l) ∙ sym (beyond (advanced owner k e) u (subst (λ s. s ≤ u) (sym (as_many owner k e)) l)))
     (cases_lt u (length k.parties))
 
 -- ---- who is served
@@ -246,7 +225,7 @@ touched_same owner k m e n h u g = ⊎_elim
 pub new_server : (owner : ℕ → ℕ) (n : ℕ) (k : Known) (e : Event) (x u : ℕ) → length k.parties ≡ n → admits owner k e ≡ true → (x < n → touches owner k e x ≡ false) →
     is_served_by x (party k u) ≡ false → is_served_by x (party (advanced owner k e) u) ≡ false
 new_server owner n k e x u q a h s = ⊎_elim (λ l. ap (is_served_by x) (changed_is owner k e u l) ∙ go e (and_parts (not k.ended) (suits owner k e) a).1 h)
-    (λ l. ap (is_served_by x) (beyond (advanced owner k e) u (subst (λ m. m ≤ u) (sym (advanced_length owner k e)) l))) (cases_lt u (length k.parties))
+    (λ l. ap (is_served_by x) (beyond (advanced owner k e) u (subst (λ m. m ≤ u) (sym (as_many owner k e)) l))) (cases_lt u (length k.parties))
   where
     same_task : (v : ℕ) → (u == v) ≡ true → is_served_by x (party k v) ≡ false
     same_task v g = ap (λ w. is_served_by x (party k w)) (sym (eqb-true u v g)) ∙ s

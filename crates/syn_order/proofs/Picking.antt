@@ -9,8 +9,9 @@ use Rattle.common_lemmas.proofs.Options.{some_same, not_missing}
 use Rattle.event_machine.specs.declared.Event.{Event}
 use Rattle.event_machine.specs.declared.Event.TheVariants.{R, E, S, D, C, T, F, X, B, Z}
 use Rattle.event_machine.specs.progress.Known.{Known, admits, advanced, touches, known_from}
+use Rattle.control_script.proofs.Writing.{as_many}
 use Rattle.syn_order.specs.Orders.{AreAdmitted, split, first, rest, IsReady, IsPicked, taken, ArePicked, left_after, IsJoin, HasNoOrder}
-use Rattle.syn_order.proofs.Locality.{advanced_length, touches_one}
+use Rattle.syn_order.proofs.Locality.{touches_one}
 use Rattle.syn_order.proofs.Pulling.{first_ready, ready_same, taken_same, pulled}
 
 -- ---- whether two events are the same
@@ -176,7 +177,7 @@ module _ (owner : ℕ → ℕ) (n : ℕ) where
       let p = some_picked k lists x sized some (ready_same owner n k (split owner k (x ∷ xs)) lists x h (first_ready owner n k x xs a.0)) in
       let r = pulled owner n some (x ∷ xs) k p.0 sized a (ready_same owner n k lists (split owner k (x ∷ xs)) p.0 (λ t l. sym (h t l)) p.1.ready) in
       one_more k lists p.0 p.1
-      (joined some m (advanced owner k p.0) (taken owner k lists p.0) r.others (same_number (length r.others) (length xs) m r.shorter s) (advanced_length owner k p.0 ∙ sized) r.admitted
+      (joined some m (advanced owner k p.0) (taken owner k lists p.0) r.others (same_number (length r.others) (length xs) m r.shorter s) (as_many owner k p.0 ∙ sized) r.admitted
       (λ t l. r.lists t l ∙ taken_same owner k (split owner k (x ∷ xs)) lists p.0 t (h t l)))
     where
       same_number : (a b c : ℕ) → suc a ≡ suc b → suc b ≡ suc c → a ≡ c
@@ -303,7 +304,7 @@ module _ (owner : ℕ → ℕ) (n : ℕ) where
   pub join_or : (m : ℕ) (k : Known) (lists : ℕ → List Event) → length k.parties ≡ n → total lists n < m → Joined k lists ⊎ Stuck k lists
   join_or zero k lists sized s = absurd (omega (arith, s))
   join_or (suc m) k lists sized s = go (pick_or k lists)
-      (λ e p. join_or m (advanced owner k e) (taken owner k lists e) (advanced_length owner k e ∙ sized) (less e p))
+      (λ e p. join_or m (advanced owner k e) (taken owner k lists e) (as_many owner k e ∙ sized) (less e p))
     where
       less : (e : Event) → IsPicked owner n k lists e → total (taken owner k lists e) n < m
       less e p =

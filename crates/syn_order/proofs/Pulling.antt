@@ -4,10 +4,11 @@ use Rattle.std.proofs.lemmas.Bool.{cases_order, and_parts}
 use Rattle.common_lemmas.proofs.Options.{some_same, not_missing}
 use Rattle.event_machine.specs.declared.Event.{Event}
 use Rattle.event_machine.specs.progress.Known.{Known, admits, advanced, touches}
+use Rattle.control_script.proofs.Writing.{as_many}
 use Rattle.syn_order.specs.Orders.{AreAdmitted, split, first, rest, IsReady, taken}
 use Rattle.syn_order.specs.Apart.{AreApart, AreAlike}
 use Rattle.syn_order.specs.Apart.AreAlike.{same, first_same, exchanged, further}
-use Rattle.syn_order.proofs.Locality.{advanced_length, touches_one}
+use Rattle.syn_order.proofs.Locality.{touches_one}
 use Rattle.syn_order.proofs.Apart.{apart_turned, other_false, touches_same, still_admitted, before_admitted, exchanged_known}
 
 -- a number below n that passes the test, or none
@@ -118,7 +119,7 @@ module _ (owner : ℕ → ℕ) (n : ℕ) (some : 0 < n) where
   pub pulled : (xs : List Event) (k : Known) (e : Event) → length k.parties ≡ n → AreAdmitted owner k xs → IsReady owner n k (split owner k xs) e → Pulled owner n k xs e
   pulled [] k e sized a ready = let t = touches_one owner n k e sized some ready.admitted in absurd (not_missing e (ready.first_in_each t.0 t.1 t.2))
   pulled (f ∷ xs) k e sized a ready = go (some_below (λ t. touches owner k f t && touches owner k e t) n)
-      (λ apart. pulled xs (advanced owner k f) e (advanced_length owner k f ∙ sized) a.1 (ready_behind k sized f e xs apart a.0 ready))
+      (λ apart. pulled xs (advanced owner k f) e (as_many owner k f ∙ sized) a.1 (ready_behind k sized f e xs apart a.0 ready))
     where
       front : (t : ℕ) → t < n → touches owner k f t ≡ true → touches owner k e t ≡ true → f ≡ e
       front t l h g = some_same (ap (λ b. first (if b then f ∷ split owner (advanced owner k f) xs t else split owner (advanced owner k f) xs t)) (sym h) ∙ ready.first_in_each t l g)
@@ -143,7 +144,7 @@ module _ (owner : ℕ → ℕ) (n : ℕ) (some : 0 < n) where
   alike_by_lists [] k xs sized a b h = subst (λ zs. AreAlike owner n k zs []) (sym (all_empty xs k sized a h)) (same k [])
   alike_by_lists (e ∷ ys) k xs sized a b h =
       further k xs (e ∷ p.others) (e ∷ ys) p.alike
-      (first_same k e p.others ys (alike_by_lists ys (advanced owner k e) p.others (advanced_length owner k e ∙ sized) p.admitted b.1
+      (first_same k e p.others ys (alike_by_lists ys (advanced owner k e) p.others (as_many owner k e ∙ sized) p.admitted b.1
       (λ t l. p.lists t l ∙ taken_same owner k (split owner k xs) (split owner k (e ∷ ys)) e t (h t l) ∙ first_taken owner k e ys t)))
     where
       p : Pulled owner n k xs e
@@ -185,7 +186,7 @@ module _ (owner : ℕ → ℕ) (n : ℕ) (some : 0 < n) where
   pub lists_of_alike : (k : Known) (xs ys : List Event) → AreAlike owner n k xs ys → length k.parties ≡ n → AreAdmitted owner k xs → HasSameLists k xs ys
   lists_of_alike k xs ys (same _ _) sized a = record { admitted = a; lists = λ t l. refl }
   lists_of_alike k xs ys (first_same _ e vs ws h) sized a =
-      let r = lists_of_alike (advanced owner k e) vs ws h (advanced_length owner k e ∙ sized) a.1 in
+      let r = lists_of_alike (advanced owner k e) vs ws h (as_many owner k e ∙ sized) a.1 in
       record { admitted = (a.0, r.admitted); lists = λ t l. λ j. if touches owner k e t then e ∷ r.lists t l j else r.lists t l j }
   lists_of_alike k xs ys (exchanged _ e f zs apart) sized a = exchanged_lists k e f zs sized apart a
   lists_of_alike k xs zs (further _ _ ys _ h g) sized a =
