@@ -11,7 +11,7 @@ use Rattle.syn_event.specs.declared.numbering.Mode.TheVariants.{Original}
 use Rattle.syn_event.specs.AllNumbers.{all_numbers}
 use Rattle.syn_event.specs.Numbering.{Numbering}
 use Rattle.syn_event.specs.Origin.{back_of}
-use Rattle.seq_file.proofs.Filing.{reads-unique}
+use Rattle.debug_sequence.proofs.Sequences.{reads_unique}
 use Rattle.task_model.specs.Machine.{ProgramWithInputs}
 use Rattle.normal_runs.specs.runs.Laws.{opened}
 use Rattle.normal_runs.specs.forms.Normalisable.{numbers_of}
@@ -113,7 +113,7 @@ module _ (text : List ℕ) (inputs : Option (List ℕ)) (lines : List ℕ) (boun
           subst (λ (x : PProgram). Same w.text x) ((only_text (program_text w.text) again read).no_other w.read_back.0 w.read_back.1) w.read_back.2
 
       same_events : w.events ≡ v.events
-      same_events = reads-unique p.names h.numbers (are_short p h.setup.types h.numbers Original h.is_start.is_legal.legal) lines w.events v.events w.reads v.reads
+      same_events = reads_unique p.names h.numbers (are_short p h.setup.types h.numbers Original h.is_start.is_legal.legal) lines w.events v.events w.reads v.reads
 
       both : (q : PProgram) → ReplaysProgram p q w.events → (others : List (List ℤ)) → AgreeBelow (length h.numbers.tasks) h.setup.inputs others →
           Replays v.events (opened h.setup h.numbers) (starting q others) (back_of (numbers_of q))
