@@ -1,16 +1,20 @@
 //! What can come at each place of a sequence, and which tasks are open there.
 
-ghost use Rattle.std.specs.Prelude.{◌≡◌, ◌≤◌, ◌<◌, ◌-◌, ◌^◌, ◌⊎◌, length};
+ghost use Rattle.std.specs.Prelude.{◌≡◌, ◌≤◌, ◌<◌, ◌+◌, ◌-◌, ◌^◌, ◌⊎◌, ℕ, List, Option, true, length};
 ghost use Rattle.ada_tree.specs.PlainProgram.{plain_program};
+ghost use Rattle.event_machine.specs.declared.Event as event;
 ghost use Rattle.syn_event.specs.DeclaredTasks.{text_of};
 ghost use Rattle.seq_file.specs.Files.{NothingFollowsEnd, most_events};
 ghost use Rattle.seq_file.specs.Lines.{is_upper_name};
 ghost use Rattle.seq_file.specs.Lists.{list_count};
+ghost use Rattle.task_model.specs.Machine.{ProgramWithInputs};
 ghost use Rattle.task_machine.specs.Judging.{VerdictIs};
 ghost use Rattle.task_machine.specs.Table.{setup_in};
+ghost use Rattle.feasible.specs.Keeping.{is_feasible};
 ghost use Rattle.debug_outcome.specs.Coming.{Comes};
 ghost use Rattle.debug_judge.specs.JudgeOutcomes.{IsOtherVerdictText};
 ghost use Rattle.debug_variants.specs.VariantsOutcomes.{VariantsMean, IsVariantsText};
+ghost use Rattle.debug_variants.specs.inner.Placing.{AreToldTo};
 
 use crate::placing::{put_numbered, tell_place};
 use ada_tree::{Program, Types};
@@ -124,7 +128,14 @@ fn tell_last<'w, K: Sink>(
     numbers: &Numbers,
     number: u32,
     out: &mut K,
-) -> Result<u8, Stop<'w>> {
+) -> Result<u8, Stop<'w>>
+    requires feasible { is_feasible judge.old.verdict ≡ true }
+    requires numbers { numbers.now ≡ judge.old.numbers }
+    // where all places before it were told, and the judge stands for all events
+    ensures { (setup : ProgramWithInputs) (bound : ℕ) (events : List event.Event) (told : Option (List ℕ)) (faults : ℕ) → AreToldTo setup numbers.now bound events (length events) judge.old told (K.told out.old) faults (K.faults out.old)
+        → NothingFollowsEnd events → VerdictIs setup numbers.now bound events Verdict.Feasible → number ≡ length events + 1
+        → let Mean = IsVariantsText setup numbers.now bound events in Comes Mean Mean told (K.told out.new) faults (K.faults out.new) result }
+{
     if judge.ended() {
         return Ok(0);
     }
