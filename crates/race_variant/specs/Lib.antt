@@ -1,2 +1,3 @@
 pub mod Variants
+pub mod Continuing
 pub mod inner

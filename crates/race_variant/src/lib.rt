@@ -5,8 +5,10 @@
 
 mod adding;
 mod asking;
+mod continuing;
 mod finding;
 mod proposing;
 mod seeing;
 
+pub use continuing::{GoEnd, go_on};
 pub use finding::variants;
