@@ -15,7 +15,7 @@ use Rattle.debug_variants.specs.VariantsOutcomes.{VariantsMean}
 use Rattle.debug_replay.proofs.OneReplay.{one_replay}
 use Rattle.debug_sequence.specs.MigrateOutcomes.{Migrates}
 use Rattle.debug_sequence.specs.RequireOutcomes.{RequiresLines}
-use Rattle.debug_sequence.proofs.OneMigrate.{one_migrated}
+use Rattle.debug_sequence.proofs.OneMigrate.{one_migrate}
 use Rattle.debug_sequence.proofs.OneRequire.{one_require}
 use Rattle.debug_core.specs.Answers.{Means}
 use Rattle.debug_core.specs.CheckMeaning.{CheckMeans}
@@ -34,8 +34,8 @@ use Rattle.debug_core.proofs.OneVaried.{one_varied, one_continued}
 use Rattle.debug_core.proofs.OneRun.{one_under}
 use Rattle.debug_core.proofs.OneStart.{one_refused_text, legal_or_not, same_program, same_numbers, legal_carries, one_refused_start, start_or_not, start_carries}
 use Rattle.debug_core.proofs.OneText.{one_program, read_or_unreadable, one_unreadable_text}
+use Rattle.debug_core.proofs.Originals.{text_is_upper, text_has_lists}
 use Rattle.debug_core.proofs.ShortNumbers.{are_short}
-use Rattle.seq_file.proofs.MainNames.{main_is_upper}
 
 one_printed : (text : List ℕ) (o q : Outcome) → PrintMeans text o → PrintMeans text q → o ≡ q
 one_printed text o q (inl h) (inl k) = h.is ∙ ap (λ (p : PProgram). writes (program_text p) 0) (one_program text k.program h.program k.is_read h.is_read) ∙ sym k.is
@@ -72,7 +72,7 @@ one_verdict text inputs lines bound o q (inr h) (inr k) = one_refused_start text
 one_replayed : (text lines : List ℕ) (o q : Outcome) → ReplayMeans text lines o → ReplayMeans text lines q → o ≡ q
 one_replayed text lines o q (inl h) (inl k) =
     one_replay k.program k.types k.numbers (are_short k.program k.types k.numbers Original k.is_legal.legal)
-    (main_is_upper k.program k.types k.numbers Original (read_is_placed text k.program k.is_legal.is_read.reads) k.is_legal.legal) lines o q
+    (text_is_upper text k.program k.types k.numbers k.is_legal) (text_has_lists text k.program k.types k.numbers k.is_legal) lines o q
     (legal_carries text Original h.program k.program h.types k.types h.numbers k.numbers h.is_legal k.is_legal (λ p types numbers. ReplaysLines p types numbers lines o) h.replayed) k.replayed
 one_replayed text lines o q (inl h) (inr k) = absurd (legal_or_not text Original h.program h.types h.numbers q h.is_legal k)
 one_replayed text lines o q (inr h) (inl k) = absurd (legal_or_not text Original k.program k.types k.numbers o k.is_legal h)
@@ -81,7 +81,7 @@ one_replayed text lines o q (inr h) (inr k) = one_refused_text text Original o q
 one_required : (text lines constraints : List ℕ) (o q : Outcome) → RequireMeans text lines constraints o → RequireMeans text lines constraints q → o ≡ q
 one_required text lines constraints o q (inl h) (inl k) =
     one_require k.program.names k.numbers (are_short k.program k.types k.numbers Original k.is_legal.legal)
-    (main_is_upper k.program k.types k.numbers Original (read_is_placed text k.program k.is_legal.is_read.reads) k.is_legal.legal) lines constraints o q
+    (text_is_upper text k.program k.types k.numbers k.is_legal) (text_has_lists text k.program k.types k.numbers k.is_legal) lines constraints o q
     (legal_carries text Original h.program k.program h.types k.types h.numbers k.numbers h.is_legal k.is_legal (λ p types numbers. RequiresLines p.names numbers lines constraints o) h.required) k.required
 one_required text lines constraints o q (inl h) (inr k) = absurd (legal_or_not text Original h.program h.types h.numbers q h.is_legal k)
 one_required text lines constraints o q (inr h) (inl k) = absurd (legal_or_not text Original k.program k.types k.numbers o k.is_legal h)
@@ -89,8 +89,8 @@ one_required text lines constraints o q (inr h) (inr k) = one_refused_text text 
 
 one_migration : (text lines : List ℕ) (o q : Outcome) → MigrateMeans text lines o → MigrateMeans text lines q → o ≡ q
 one_migration text lines o q (inl h) (inl k) =
-    one_migrated k.program.names k.numbers (are_short k.program k.types k.numbers Original k.is_legal.legal)
-    (main_is_upper k.program k.types k.numbers Original (read_is_placed text k.program k.is_legal.is_read.reads) k.is_legal.legal) lines o q
+    one_migrate k.program.names k.numbers (are_short k.program k.types k.numbers Original k.is_legal.legal)
+    (text_is_upper text k.program k.types k.numbers k.is_legal) (text_has_lists text k.program k.types k.numbers k.is_legal) lines o q
     (legal_carries text Original h.program k.program h.types k.types h.numbers k.numbers h.is_legal k.is_legal (λ p types numbers. Migrates p.names numbers lines o) h.migrated) k.migrated
 one_migration text lines o q (inl h) (inr k) = absurd (legal_or_not text Original h.program h.types h.numbers q h.is_legal k)
 one_migration text lines o q (inr h) (inl k) = absurd (legal_or_not text Original k.program k.types k.numbers o k.is_legal h)

@@ -7,6 +7,7 @@ use Rattle.ded_io.specs.seeds.Seeded.{seeded, word_of, behind_word}
 use Rattle.event_machine.specs.declared.Event.{Event}
 use Rattle.seq_file.specs.Files.{SeqText}
 use Rattle.seq_file.specs.Lines.{is_upper_name}
+use Rattle.seq_file.specs.Lists.{list_count}
 use Rattle.seq_file.specs.Short.{IsShort}
 use Rattle.seq_file.proofs.MainNames.{main_is_upper}
 use Rattle.syn_event.specs.declared.numbering.Mode.TheVariants.{Original}
@@ -19,8 +20,9 @@ use Rattle.race_variant.proofs.Continued.{continued_unique}
 use Rattle.race_variant.proofs.Unique.{variants_unique}
 use Rattle.debug_outcome.specs.files.Giving.{Given}
 use Rattle.debug_outcome.specs.Outcomes.{Outcome, writes}
+use Rattle.debug_replay.proofs.OwnTasks.{lists_for_all}
 use Rattle.debug_sequence.specs.Sequences.{ReadsAs}
-use Rattle.debug_sequence.proofs.Sequences.{reads_unique, reads_or_refused, one_refused_sequence}
+use Rattle.debug_sequence.proofs.Sequences.{reads_as_unique, read_or_refused, one_refused}
 use Rattle.debug_variants.specs.ContinueOutcomes.{CouldBeTooMany, FitsAndGoesOn, IsContinuedText, ContinueMeans, end_status}
 use Rattle.debug_variants.specs.VariantsOutcomes.{Place, ArePlaces, IsPlaceBehind, IsVariantsText, VariantsMean, variants_text}
 use Rattle.debug_judge.specs.JudgeOutcomes.{IsOtherVerdictText}
@@ -92,25 +94,28 @@ module _ (setup : ProgramWithInputs) (numbers : Numbering) (placed : IsWellPlace
   upper : is_upper_name (text_of setup.program.names numbers.main) ≡ true
   upper = main_is_upper setup.program setup.types numbers Original placed legal
 
+  lists : length numbers.tasks ≡ list_count numbers
+  lists = lists_for_all setup.program setup.types numbers placed legal
+
   same : (events others : List Event) → ReadsAs lines numbers setup.program.names events → ReadsAs lines numbers setup.program.names others → events ≡ others
-  same events others h k = reads_unique setup.program.names numbers short lines events others h k
+  same events others h k = reads_as_unique setup.program.names numbers short upper lists lines events others h k
 
   pub one_varied : (bound : ℕ) (o q : Outcome) → VariantsMean setup numbers lines bound o → VariantsMean setup numbers lines bound q → o ≡ q
   one_varied bound o q (inl h) (inl k) =
       one_told setup numbers bound k.events o q
       (subst (λ (es : List Event). IsVariantsText setup numbers bound es o ⊎ IsOtherVerdictText setup numbers bound es o) (same h.events k.events h.reads k.reads) h.told) k.told
-  one_varied bound o q (inl h) (inr k) = absurd (reads_or_refused setup.program.names numbers short upper lines h.events q h.reads k)
-  one_varied bound o q (inr h) (inl k) = absurd (reads_or_refused setup.program.names numbers short upper lines k.events o k.reads h)
-  one_varied bound o q (inr h) (inr k) = one_refused_sequence setup.program.names numbers short upper lines o q h k
+  one_varied bound o q (inl h) (inr k) = absurd (read_or_refused setup.program.names numbers short upper lists lines h.events q h.reads k)
+  one_varied bound o q (inr h) (inl k) = absurd (read_or_refused setup.program.names numbers short upper lists lines k.events o k.reads h)
+  one_varied bound o q (inr h) (inr k) = one_refused setup.program.names numbers short upper lists lines o q h k
 
   module _ (count bound : ℕ) where
     one_by : {C : Type 0} (word : C → ℕ) (next : C → C) (chooser : C) (o q : Outcome) → ContinueMeans word next setup numbers lines chooser count bound o → ContinueMeans word next setup numbers lines chooser count bound q → o ≡ q
     one_by word next chooser o q (inl h) (inl k) =
         one_within setup numbers bound k.events word next chooser count o q
         (subst (λ (es : List Event). CouldBeTooMany es count o ⊎ FitsAndGoesOn word next setup numbers bound es chooser count o) (same h.events k.events h.reads k.reads) h.told) k.told
-    one_by word next chooser o q (inl h) (inr k) = absurd (reads_or_refused setup.program.names numbers short upper lines h.events q h.reads k)
-    one_by word next chooser o q (inr h) (inl k) = absurd (reads_or_refused setup.program.names numbers short upper lines k.events o k.reads h)
-    one_by word next chooser o q (inr h) (inr k) = one_refused_sequence setup.program.names numbers short upper lines o q h k
+    one_by word next chooser o q (inl h) (inr k) = absurd (read_or_refused setup.program.names numbers short upper lists lines h.events q h.reads k)
+    one_by word next chooser o q (inr h) (inl k) = absurd (read_or_refused setup.program.names numbers short upper lists lines k.events o k.reads h)
+    one_by word next chooser o q (inr h) (inr k) = one_refused setup.program.names numbers short upper lists lines o q h k
 
     one_chosen : (x : Choosing) (o q : Outcome) → GoesOnBy setup numbers lines count bound x o → GoesOnBy setup numbers lines count bound x q → o ≡ q
     one_chosen (FromList choices) o q h k = one_by first_choice behind_choice choices o q h k

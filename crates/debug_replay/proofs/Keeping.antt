@@ -28,7 +28,7 @@ use Rattle.debug_sequence.specs.Sequences.{ReadsAs}
 use Rattle.debug_sequence.proofs.Sequences.{reads_fit}
 use Rattle.debug_replay.specs.inner.Printing.{printed_outcome, replay_outcome, ComeTo}
 use Rattle.debug_replay.specs.ReplayOutcomes.{ReplaysLines}
-use Rattle.debug_replay.proofs.OwnTasks.{lists_for_all, main_is_there}
+use Rattle.debug_replay.proofs.OwnTasks.{lists_for_all}
 use Rattle.debug_replay.proofs.TextOutcomes.{long_by_length, short_by_length, outcome_within, outcome_beyond}
 
 -- the names of a text within the limit of a program have ids
@@ -53,7 +53,7 @@ module _ (p : PProgram) (legal : IsLegalOriginal p) (lines : List ℕ) where
   module _ (types : TypeTable) (numbers : Numbering) (own : Legal p types numbers Original) where
     fit : (events : List Event) → ReadsAs lines numbers p.names events → AreFit numbers events
     fit events reads =
-        reads_fit p.names numbers (main_is_there p types numbers legal.placed own) (lists_for_all p types numbers legal.placed own) lines events reads
+        reads_fit p.names numbers lines events (lists_for_all p types numbers legal.placed own) reads
 
     printed : (events : List Event) (o : Outcome) → ReadsAs lines numbers p.names events → length events ≤ most_events → (b : Bool) →
         nat_lt text_limit (length (program_text (replay_tree p types numbers events))) ≡ b → o ≡ printed_outcome (replay_tree p types numbers events) → ReplaysLines p types numbers lines o

@@ -1,5 +1,5 @@
--- All tasks of a legal original are its own, so that a file by tasks has one list for each of them; main is one.
-use Rattle.std.proofs.Common.{◌≡◌, ◌<◌, ◌+◌, ℕ, Bool, not, cond, nat_eq, List, [], ◌∷◌, map, length, codes, sym, ap, ◌∙◌, subst, arith}
+-- All tasks of a legal original are its own, so that a file by tasks has one list for each.
+use Rattle.std.proofs.Common.{◌≡◌, ◌+◌, ℕ, Bool, not, cond, nat_eq, List, [], ◌∷◌, map, length, codes, sym, ap, ◌∙◌, subst, arith}
 use Rattle.std.specs.Prelude.{◌||◌, count_by}
 use Rattle.std.specs.List.{AllByRecursion, starts_with}
 use Rattle.std.specs.Str.{bytes_eq}
@@ -37,7 +37,3 @@ module _ (p : PProgram) (types : TypeTable) (numbers : Numbering) (placed : IsWe
   lists_for_all =
       subst (λ (n : Numbering). length n.tasks ≡ list_count n) (sym legal.its_numbers)
       (omega (arith, none_added p.names (numbered_tasks types p) (tasks-good p types legal.check_rules (placed_tokens p placed))))
-
-  -- and one of them is main's
-  pub main_is_there : 0 < length numbers.tasks
-  main_is_there = subst (λ (n : Numbering). 0 < length n.tasks) (sym legal.its_numbers) (omega arith)
