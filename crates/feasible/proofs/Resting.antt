@@ -211,7 +211,8 @@ module _ (setup : ProgramWithInputs) (events : List Event) (j : Kept) (s : Stand
       (seat_settled setup j.numbers j.bound events more j.tasks j.steps j.ended
       (subst (λ es. AreKept setup j.numbers j.bound es j.tasks j.steps j.ended) all_taken s.keeps) t settled)
 
-  kept_all : AreKept setup j.numbers j.bound events j.tasks j.steps j.ended
+  -- What is kept stands for all the events.
+  pub kept_all : AreKept setup j.numbers j.bound events j.tasks j.steps j.ended
   kept_all = subst (λ es. AreKept setup j.numbers j.bound es j.tasks j.steps j.ended) all_taken s.keeps
 
   -- A settled task is not open.
