@@ -1,6 +1,6 @@
 -- The lines of a sequence call for one outcome where its variants are told, and where it goes on by choices.
 use Rattle.std.specs.Prelude.{◌⊎◌}
-use Rattle.std.proofs.Common.{◌≡◌, ℕ, suc, true, List, [], ◌∷◌, ◌++◌, length, slice_get, Some, inl, inr, refl, sym, ap, ap₂, subst, ◌∙◌, arith}
+use Rattle.std.proofs.Common.{◌≡◌, ℕ, suc, true, List, [], ◌∷◌, ◌++◌, length, take, slice_get, Some, inl, inr, refl, sym, ap, ap₂, subst, ◌∙◌, arith}
 use Rattle.ada_tree.specs.WellPlaced.{IsWellPlaced}
 use Rattle.ded_io.specs.Stored.{first_choice, behind_choice}
 use Rattle.ded_io.specs.seeds.Seeded.{seeded, word_of, behind_word}
@@ -17,7 +17,7 @@ use Rattle.syn_event.specs.Numbering.{Numbering}
 use Rattle.task_model.specs.Machine.{ProgramWithInputs}
 use Rattle.race_variant.specs.declared.continuing.GoEnd.{GoEnd}
 use Rattle.race_variant.proofs.Continued.{continued_unique}
-use Rattle.race_variant.proofs.Unique.{variants_unique}
+use Rattle.race_variant.proofs.Ascents.{one_found, one_unsettled}
 use Rattle.debug_outcome.specs.files.Giving.{Given}
 use Rattle.debug_outcome.specs.Outcomes.{Outcome, writes}
 use Rattle.debug_replay.proofs.OwnTasks.{lists_for_all}
@@ -47,8 +47,9 @@ same_by_place P one (x ∷ xs) (y ∷ ys) e h l =
 module _ (setup : ProgramWithInputs) (numbers : Numbering) (bound : ℕ) (events : List Event) where
   one_place : (k : ℕ) (x y : Place) → IsPlaceBehind setup numbers bound events k x → IsPlaceBehind setup numbers bound events k y → x ≡ y
   one_place k x y h l =
-      let same = variants_unique setup numbers bound _ _ x.found y.found x.unsettled y.unsettled h l in
-      ap₂ (λ f u. record { found = f; unsettled = u }) same.0 same.1
+      ap₂ (λ (found : List Event) (unsettled : List ℕ). record { found = found; unsettled = unsettled })
+      (one_found setup numbers bound (take k events) (slice_get events k) x.found y.found x.unsettled y.unsettled h l)
+      (one_unsettled setup numbers bound (take k events) (slice_get events k) x.found y.found x.unsettled y.unsettled h l)
 
   one_variants_text : (o q : Outcome) → IsVariantsText setup numbers bound events o → IsVariantsText setup numbers bound events q → o ≡ q
   one_variants_text o q h k =
