@@ -12,3 +12,5 @@ pub mod Next
 pub mod Telling
 pub mod Whole
 pub mod Going
+pub mod Knowing
+pub mod Continued

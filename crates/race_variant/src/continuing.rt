@@ -1,6 +1,6 @@
 // Going on from the events for which a judge stands, by choices.
 
-ghost use Rattle.std.specs.Prelude.{◌≡◌, ◌≤◌, ◌<◌, ◌+◌, ◌^◌, ◌%◌, ◌++◌, ◌∷◌, ◌×◌, ℕ, List, [], true, false, Some, None, length, slice_get, IfOk, OnOk, OnErr};
+ghost use Rattle.std.specs.Prelude.{◌≡◌, ◌≤◌, ◌<◌, ◌+◌, ◌^◌, ◌%◌, ◌++◌, ◌∷◌, ℕ, List, [], true, false, Some, None, length, slice_get, IfOk, OnOk, OnErr};
 ghost use Rattle.std.specs.Fn.{iterate};
 ghost use Rattle.event_machine.specs.declared.Event as event;
 ghost use Rattle.task_model.specs.Machine.{ProgramWithInputs};
