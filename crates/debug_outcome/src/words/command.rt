@@ -130,7 +130,8 @@ pub fn command_of<'w>(words: &'w [String]) -> Option<Command<'w>>
         }
         [] => None,
         [_] => None,
-        [_, _, _, _, _, _, ..] => None,
+        [_, _, _, _, _, _] => None,
+        [_, _, _, _, _, _, _, _, ..] => None,
     }
 }
 
