@@ -16,7 +16,7 @@ use Rattle.syn_event.specs.Legal.{Legal}
 use Rattle.syn_event.specs.Numbering.{Numbering}
 use Rattle.task_model.specs.Machine.{ProgramWithInputs}
 use Rattle.race_variant.specs.declared.continuing.GoEnd.{GoEnd}
-use Rattle.race_variant.proofs.Continued.{continued_unique}
+use Rattle.race_variant.proofs.Continued.{one_goes_on}
 use Rattle.race_variant.proofs.Ascents.{one_found, one_unsettled}
 use Rattle.debug_outcome.specs.files.Giving.{Given}
 use Rattle.debug_outcome.specs.Outcomes.{Outcome, writes}
@@ -67,7 +67,7 @@ module _ (setup : ProgramWithInputs) (numbers : Numbering) (bound : ℕ) (events
   module _ {C : Type 0} (word : C → ℕ) (next : C → C) (chooser : C) (count : ℕ) where
     one_continued_text : (o q : Outcome) → IsContinuedText word next setup numbers bound events chooser count o → IsContinuedText word next setup numbers bound events chooser count q → o ≡ q
     one_continued_text o q h k =
-        let same = continued_unique word next setup numbers bound events chooser count h.chosen k.chosen h.end k.end h.continued k.continued in
+        let same = one_goes_on word next setup numbers bound events chooser count h.chosen k.chosen h.end k.end h.continued k.continued in
         h.is
         ∙ ap₂ (λ (chosen : List Event) (end : GoEnd). writes (SeqText setup.program.names numbers (events ++ chosen)) (end_status end)) same.0 same.1
         ∙ sym k.is
