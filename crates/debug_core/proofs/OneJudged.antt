@@ -7,8 +7,8 @@ use Rattle.ded_io.specs.Written.{◌⧺◌}
 use Rattle.event_machine.specs.declared.Event.{Event}
 use Rattle.event_machine.specs.declared.Event.TheVariants.{R, E, S, D, C, T, F, X, B, Z}
 use Rattle.seq_file.specs.Lines.{is_upper_name}
+use Rattle.seq_file.specs.Lists.{list_count}
 use Rattle.seq_file.specs.Short.{IsShort}
-use Rattle.seq_file.proofs.Filing.{reads-unique}
 use Rattle.syn_event.specs.declared.numbering.Mode.TheVariants.{Original}
 use Rattle.syn_event.specs.Legal.{Legal}
 use Rattle.syn_event.specs.Numbering.{Numbering, owner_of}
@@ -26,7 +26,8 @@ use Rattle.divergence.specs.ViewText.{number_line, view_lines}
 use Rattle.debug_outcome.specs.Outcomes.{Outcome, writes}
 use Rattle.debug_judge.specs.JudgeOutcomes.{AreSeen, ShowsWhy, IsVerdictText, SequenceMeans, verdict_status}
 use Rattle.seq_file.proofs.MainNames.{main_is_upper}
-use Rattle.debug_outcome.proofs.sequences.Telling.{one_bad_sequence, read_or_bad}
+use Rattle.debug_replay.proofs.OwnTasks.{lists_for_all}
+use Rattle.debug_sequence.proofs.Sequences.{reads_as_unique, read_or_refused, one_refused}
 use Rattle.debug_core.proofs.ShortNumbers.{are_short}
 
 -- ---- the text of a verdict, by what is seen of the tasks that its event needs
@@ -72,7 +73,7 @@ module _ (setup : ProgramWithInputs) (numbers : Numbering) (bound : ℕ) (events
   text_same (Infeasible at why) h k = refused_same at why (take (at - 1) events) (event_at_place events (Infeasible at why)) h k
   text_same (Unsettled at t) h k = held_same at t (event_at_place events (Unsettled at t))
 
-one_verdict_text : (setup : ProgramWithInputs) (numbers : Numbering) (bound : ℕ) (events : List Event) (o q : Outcome) → IsVerdictText setup numbers bound events o → IsVerdictText setup numbers bound events q → o ≡ q
+pub one_verdict_text : (setup : ProgramWithInputs) (numbers : Numbering) (bound : ℕ) (events : List Event) (o q : Outcome) → IsVerdictText setup numbers bound events o → IsVerdictText setup numbers bound events q → o ≡ q
 one_verdict_text setup numbers bound events o q h k =
     let same : h.verdict ≡ k.verdict = verdict_unique setup numbers bound events h.verdict k.verdict h.verdict_is k.verdict_is in
     let seen : ShowsWhy setup numbers events h.views k.verdict = subst (λ (v : Verdict). ShowsWhy setup numbers events h.views v) same h.seen in
@@ -90,10 +91,13 @@ module _ (setup : ProgramWithInputs) (numbers : Numbering) (placed : IsWellPlace
   upper : is_upper_name (text_of setup.program.names numbers.main) ≡ true
   upper = main_is_upper setup.program setup.types numbers Original placed legal
 
+  lists : length numbers.tasks ≡ list_count numbers
+  lists = lists_for_all setup.program setup.types numbers placed legal
+
   pub one_judged : (o q : Outcome) → SequenceMeans setup numbers lines bound o → SequenceMeans setup numbers lines bound q → o ≡ q
   one_judged o q (inl h) (inl k) =
-      let same : h.events ≡ k.events = reads-unique setup.program.names numbers short lines h.events k.events h.reads k.reads in
+      let same : h.events ≡ k.events = reads_as_unique setup.program.names numbers short upper lists lines h.events k.events h.reads k.reads in
       one_verdict_text setup numbers bound k.events o q (subst (λ (es : List Event). IsVerdictText setup numbers bound es o) same h.judged) k.judged
-  one_judged o q (inl h) (inr k) = absurd (read_or_bad setup.program.names numbers short upper lines h.events q h.reads k)
-  one_judged o q (inr h) (inl k) = absurd (read_or_bad setup.program.names numbers short upper lines k.events o k.reads h)
-  one_judged o q (inr h) (inr k) = one_bad_sequence setup.program.names numbers short upper lines o q h k
+  one_judged o q (inl h) (inr k) = absurd (read_or_refused setup.program.names numbers short upper lists lines h.events q h.reads k)
+  one_judged o q (inr h) (inl k) = absurd (read_or_refused setup.program.names numbers short upper lists lines k.events o k.reads h)
+  one_judged o q (inr h) (inr k) = one_refused setup.program.names numbers short upper lists lines o q h k

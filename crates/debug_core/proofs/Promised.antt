@@ -11,7 +11,9 @@ use Rattle.syn_event.specs.declared.numbering.Mode.TheVariants.{Original}
 use Rattle.syn_event.specs.AllNumbers.{all_numbers}
 use Rattle.syn_event.specs.Numbering.{Numbering}
 use Rattle.syn_event.specs.Origin.{back_of}
-use Rattle.seq_file.proofs.Filing.{reads-unique}
+use Rattle.seq_file.specs.Files as file
+use Rattle.debug_sequence.specs.Sequences.{IsRefusedSequence}
+use Rattle.debug_sequence.proofs.Sequences.{reads_as_unique}
 use Rattle.task_model.specs.Machine.{ProgramWithInputs}
 use Rattle.normal_runs.specs.runs.Laws.{opened}
 use Rattle.normal_runs.specs.forms.Normalisable.{numbers_of}
@@ -24,7 +26,7 @@ use Rattle.debug_outcome.specs.Coming.{IsRefusal}
 use Rattle.debug_outcome.specs.Outcomes.{Outcome, refuses}
 use Rattle.debug_outcome.specs.declared.refusal.Listed.TheVariants.{Events}
 use Rattle.debug_outcome.specs.declared.refusal.Refusal.{Refusal}
-use Rattle.debug_outcome.specs.declared.refusal.Refusal.TheVariants.{LongText, TooMany}
+use Rattle.debug_outcome.specs.declared.refusal.Refusal.TheVariants.{LongText, NoOrder, TooMany}
 use Rattle.debug_outcome.specs.files.Wanting.{text_limit}
 use Rattle.debug_outcome.proofs.Comings.{line_is_some}
 use Rattle.debug_core.specs.Headline.{Headline, HasWritten, IsPromised, KeepsToVerdict}
@@ -34,6 +36,7 @@ use Rattle.debug_core.specs.LegalTexts.{IsRefusedText}
 use Rattle.debug_core.specs.Starts.{IsRefusedStart}
 use Rattle.debug_core.proofs.Following.{keeps_to}
 use Rattle.debug_core.proofs.OneStart.{legal_carries}
+use Rattle.debug_core.proofs.Originals.{text_is_upper, text_has_lists}
 use Rattle.debug_core.proofs.ReadingBack.{only_text}
 use Rattle.debug_core.proofs.ShortNumbers.{are_short}
 
@@ -58,6 +61,14 @@ no-start : (text : List ℕ) (inputs : Option (List ℕ)) (o : Outcome) → HasW
 no-start text inputs o w (inl h) = no-text text o w h
 no-start text inputs o w (inr h) = no-inputs h.numbers inputs o w h.are_bad
 
+no-sequence : (names : List (List ℕ)) (numbers : Numbering) (lines : List ℕ) (o : Outcome) → HasWritten o → IsRefusedSequence names numbers lines o → ⊥
+no-sequence names numbers lines o w (inl h) = told o _ w h.1.told
+no-sequence names numbers lines o w (inr (is, inl h)) = told o _ w h.told
+no-sequence names numbers lines o w (inr (is, inr h)) = elim h.refused [
+  | inl none ↦ refused o (NoOrder none.task) w none.told
+  | inr many ↦ refused o (TooMany Events file.most_events) w many.told
+]
+
 no-limit : (p : PProgram) (types : TypeTable) (numbers : Numbering) (events : List Event) (o : Outcome) → HasWritten o → PassesLimit p types numbers events o → ⊥
 no-limit p types numbers events o w (inl h) = refused o (TooMany Events most_events) w h.1
 no-limit p types numbers events o w (inr h) = refused o (LongText text_limit) w h.2
@@ -65,11 +76,11 @@ no-limit p types numbers events o w (inr h) = refused o (LongText text_limit) w 
 written : (p : PProgram) (types : TypeTable) (numbers : Numbering) (lines : List ℕ) (o : Outcome) → HasWritten o → ReplaysLines p types numbers lines o → IsReplayWritten p types numbers lines o
 written p types numbers lines o w (inl h) = h
 written p types numbers lines o w (inr (inl h)) = absurd (no-limit p types numbers h.events o w h.limit)
-written p types numbers lines o w (inr (inr h)) = absurd (told o _ w h.told)
+written p types numbers lines o w (inr (inr h)) = absurd (no-sequence p.names numbers lines o w h)
 
 judged : (setup : ProgramWithInputs) (numbers : Numbering) (lines : List ℕ) (bound : ℕ) (o : Outcome) → HasWritten o → SequenceMeans setup numbers lines bound o → IsVerdictOfSequence setup numbers lines bound o
 judged setup numbers lines bound o w (inl h) = h
-judged setup numbers lines bound o w (inr h) = absurd (told o _ w h.told)
+judged setup numbers lines bound o w (inr h) = absurd (no-sequence setup.program.names numbers lines o w h)
 
 -- ---- both calls
 
@@ -113,7 +124,9 @@ module _ (text : List ℕ) (inputs : Option (List ℕ)) (lines : List ℕ) (boun
           subst (λ (x : PProgram). Same w.text x) ((only_text (program_text w.text) again read).no_other w.read_back.0 w.read_back.1) w.read_back.2
 
       same_events : w.events ≡ v.events
-      same_events = reads-unique p.names h.numbers (are_short p h.setup.types h.numbers Original h.is_start.is_legal.legal) lines w.events v.events w.reads v.reads
+      same_events =
+          reads_as_unique p.names h.numbers (are_short p h.setup.types h.numbers Original h.is_start.is_legal.legal)
+          (text_is_upper text p h.setup.types h.numbers h.is_start.is_legal) (text_has_lists text p h.setup.types h.numbers h.is_start.is_legal) lines w.events v.events w.reads v.reads
 
       both : (q : PProgram) → ReplaysProgram p q w.events → (others : List (List ℤ)) → AgreeBelow (length h.numbers.tasks) h.setup.inputs others →
           Replays v.events (opened h.setup h.numbers) (starting q others) (back_of (numbers_of q))

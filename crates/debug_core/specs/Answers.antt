@@ -1,7 +1,7 @@
 -- What the words and the bytes of the files call for, and what the program answers: such an outcome, delivered (this project's rules).
 use Rattle.std.specs.Prelude.{ℕ, List, [], ◌∷◌, Option, Some, None, ◌⊎◌}
 use Rattle.ded_io.specs.Told.{ToldFile}
-use Rattle.debug_outcome.specs.words.Words.{Asked, AsksPrint, AsksCheck, AsksRun, AsksJudge, AsksReplay, AsksRequire, NoChoices, ChoicesIn, ChoicesBy}
+use Rattle.debug_outcome.specs.words.Words.{Asked, AsksPrint, AsksCheck, AsksRun, AsksJudge, AsksReplay, AsksRequire, AsksMigrate, AsksVariants, AsksContinue, NoChoices, ChoicesIn, ChoicesBy}
 use Rattle.debug_outcome.specs.declared.words.command.NoWords.{NoWords}
 use Rattle.debug_outcome.specs.declared.words.command.NoWords.TheVariants.{NotText, Memory}
 use Rattle.debug_outcome.specs.Coming.{Never, Tells}
@@ -19,6 +19,9 @@ use Rattle.debug_core.specs.RunMeaning.{RunMeans}
 use Rattle.debug_core.specs.JudgeMeaning.{JudgeMeans}
 use Rattle.debug_core.specs.ReplayMeaning.{ReplayMeans}
 use Rattle.debug_core.specs.RequireMeaning.{RequireMeans}
+use Rattle.debug_core.specs.MigrateMeaning.{MigrateMeans}
+use Rattle.debug_core.specs.VariantsMeaning.{VariantsMeans}
+use Rattle.debug_core.specs.ContinueMeaning.{ContinueMeans}
 
 -- These words and these bytes of files, in the order of the words, call for this outcome: one definition a command.
 abbrev pub Means : Asked → List (List ℕ) → Outcome → Type 0
@@ -34,6 +37,18 @@ Means (AsksJudge file None sequence bound) (text ∷ lines ∷ []) o = JudgeMean
 Means (AsksJudge file (Some list) sequence bound) (text ∷ inputs ∷ lines ∷ []) o = JudgeMeans text (Some inputs) lines bound o
 Means (AsksReplay file sequence) (text ∷ lines ∷ []) o = ReplayMeans text lines o
 Means (AsksRequire file sequence constraints) (text ∷ lines ∷ bytes ∷ []) o = RequireMeans text lines bytes o
+Means (AsksMigrate file sequence) (text ∷ lines ∷ []) o = MigrateMeans text lines o
+Means (AsksVariants file None sequence bound) (text ∷ lines ∷ []) o = VariantsMeans text None lines bound o
+Means (AsksVariants file (Some list) sequence bound) (text ∷ inputs ∷ lines ∷ []) o = VariantsMeans text (Some inputs) lines bound o
+Means (AsksContinue file None sequence NoChoices count bound) (text ∷ lines ∷ []) o = ContinueMeans text None lines NothingGiven count bound o
+Means (AsksContinue file None sequence (ChoicesIn name) count bound) (text ∷ lines ∷ choices ∷ []) o = ContinueMeans text None lines (BytesGiven choices) count bound o
+Means (AsksContinue file None sequence (ChoicesBy seed) count bound) (text ∷ lines ∷ []) o = ContinueMeans text None lines (SeedGiven seed) count bound o
+Means (AsksContinue file (Some list) sequence NoChoices count bound) (text ∷ inputs ∷ lines ∷ []) o =
+    ContinueMeans text (Some inputs) lines NothingGiven count bound o
+Means (AsksContinue file (Some list) sequence (ChoicesIn name) count bound) (text ∷ inputs ∷ lines ∷ choices ∷ []) o =
+    ContinueMeans text (Some inputs) lines (BytesGiven choices) count bound o
+Means (AsksContinue file (Some list) sequence (ChoicesBy seed) count bound) (text ∷ inputs ∷ lines ∷ []) o =
+    ContinueMeans text (Some inputs) lines (SeedGiven seed) count bound o
 Means asked contents o = ⊥
 
 -- The bytes of all files were loaded, each by one load and in the order of the words, and with the words they call for the outcome.
@@ -46,9 +61,11 @@ pub record LoadedFilesMean (asked : Asked) (told : Option (List ToldFile)) (load
 abbrev pub CallsFor : Asked → Option (List ToldFile) → ℕ → ℕ → List Load → Outcome → Type 0
 CallsFor asked told faults faults' loads o = LoadedFilesMean asked told loads o ⊎ AreUnloaded told faults faults' (wanted_by asked) loads o
 
--- A run writes its lines as its actions are made, so that a run out of memory may leave a prefix of its text; every other text is written once nothing more is needed for it.
+-- A run writes its lines as its actions are made, and variants are written place by place, so that either, out of memory, may leave a prefix of its text; every other
+-- text is written once nothing more is needed for it.
 abbrev pub GrowsFor : Asked → Option (List ToldFile) → ℕ → ℕ → List Load → Outcome → Type 0
 GrowsFor (AsksRun file inputs choices turns) told faults faults' loads o = CallsFor (AsksRun file inputs choices turns) told faults faults' loads o
+GrowsFor (AsksVariants file inputs sequence bound) told faults faults' loads o = CallsFor (AsksVariants file inputs sequence bound) told faults faults' loads o
 GrowsFor asked told faults faults' loads o = ⊥
 
 -- How the files and both outputs stand before a call and after it, by what each of them tells and by its faults, with the loads that the call made.

@@ -12,7 +12,6 @@ use Rattle.ada_printer.specs.ProgramText.{program_text}
 use Rattle.syn_event.specs.declared.numbering.Mode.TheVariants.{Original}
 use Rattle.syn_event.specs.Numbering.{Numbering}
 use Rattle.syn_event.specs.Origin.{back_of}
-use Rattle.seq_file.specs.Files.{SeqReads}
 use Rattle.task_model.specs.Machine.{ProgramWithInputs}
 use Rattle.task_machine.specs.declared.verdict.Verdict.{Verdict}
 use Rattle.task_machine.specs.declared.verdict.Verdict.TheVariants.{Feasible, Infeasible, Unsettled}
@@ -27,6 +26,7 @@ use Rattle.task_machine.specs.Views.{View}
 use Rattle.replay_model.specs.Promised.{IsReplayText}
 use Rattle.text_laws.specs.normal_read_back.Laws.{IsReadAsSame}
 use Rattle.debug_outcome.specs.Outcomes.{Outcome, writes}
+use Rattle.debug_sequence.specs.Sequences.{ReadsAs}
 use Rattle.debug_core.specs.JudgeMeaning.{JudgeMeans}
 use Rattle.debug_core.specs.ReplayMeaning.{ReplayMeans}
 use Rattle.debug_core.specs.Starts.{IsStart}
@@ -82,14 +82,14 @@ pub record KeepsToVerdict (setup : ProgramWithInputs) (numbers : Numbering) (eve
   pub replays : (others : List (List ℤ)) → AgreeBelow (length numbers.tasks) setup.inputs others → Replays events (opened setup numbers) (starting q others) (back_of (numbers_of q))
   pub keeps : (others : List (List ℤ)) → AgreeBelow (length numbers.tasks) setup.inputs others → KeepsTo events (opened setup numbers) (starting q others) (back_of (numbers_of q)) verdict
 
--- The files hold a program, inputs and a sequence of it. The verdict that is told is that of the sequence, with why it is so. The text that is written is
+-- The files hold a program, inputs and a sequence of it, in either format. The verdict that is told is that of the sequence, with why it is so. The text that is written is
 -- the sequence's replay text. The program whose text it is, and whatever program is read from it, keeps to the verdict.
 pub record IsPromised (text : List ℕ) (inputs : Option (List ℕ)) (lines : List ℕ) (bound : ℕ) (judged replayed : Outcome) : Type 0 where
   pub setup : ProgramWithInputs
   pub numbers : Numbering
   pub is_start : IsStart text Original inputs setup numbers
   pub events : List Event
-  pub reads : SeqReads lines numbers setup.program.names events
+  pub reads : ReadsAs lines numbers setup.program.names events
   pub verdict : Verdict
   pub verdict_is : VerdictIs setup numbers bound events verdict
   pub views : ℕ → View

@@ -2,7 +2,9 @@ pub mod TextFaults
 pub mod RuleFaults
 pub mod LegalTexts
 pub mod InputTexts
+pub mod ChoiceTexts
 pub mod ChosenRuns
+pub mod ChosenEvents
 pub mod Starts
 pub mod PrintMeaning
 pub mod CheckMeaning
@@ -10,6 +12,9 @@ pub mod RunMeaning
 pub mod JudgeMeaning
 pub mod ReplayMeaning
 pub mod RequireMeaning
+pub mod MigrateMeaning
+pub mod VariantsMeaning
+pub mod ContinueMeaning
 pub mod Answers
 pub mod OneAnswer
 pub mod Headline

@@ -2,9 +2,13 @@
 #![tactic(auto)]
 
 mod check_command;
+mod choosing;
+mod chosen_events;
 mod chosen_runs;
+mod continue_command;
 mod judge_command;
 mod laws;
+mod migrate_command;
 mod print_command;
 mod reading;
 mod replay_command;
@@ -14,6 +18,7 @@ mod run_command;
 mod starting;
 mod text_fault;
 mod top;
+mod variants_command;
 
 pub use debug_judge::{LinesError, LinesVerdict, judge_lines};
 pub use laws::{headline, one_answer};

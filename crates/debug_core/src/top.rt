@@ -9,11 +9,14 @@ ghost use Rattle.debug_outcome.specs.Traces.{HasLoads};
 ghost use Rattle.debug_core.specs.Answers.{sides, Answers, AnswersNoWords, CallsFor, GrowsFor, TellsNoWords};
 
 use crate::check_command::check_command;
+use crate::continue_command::continue_command;
 use crate::judge_command::judge_command;
+use crate::migrate_command::migrate_command;
 use crate::print_command::print_command;
 use crate::replay_command::replay_command;
 use crate::require_command::require_command;
 use crate::run_command::run_command;
+use crate::variants_command::variants_command;
 use debug_outcome::words::{Command, NoWords, command_of};
 use debug_outcome::{Refusal, Stop, TracedFiles, tell};
 use ded_io::Sink;
@@ -22,12 +25,14 @@ use std::alloc::Global;
 /// All that the program does: takes its words without the program's own name, reads from `files`, writes to `out` and `err`, and answers the
 /// status with which it ends.
 ///
-/// The usages are `print FILE`, `check FILE`, `replay FILE SEQUENCE`, `require FILE SEQUENCE CONSTRAINTS`, `run FILE IN CHOICES TURNS` and
-/// `judge FILE IN SEQUENCE STEPS`. The statuses are 0 done; 10 no action applied any more and 11 all turns were made, of a run; 4 the sequence is
-/// infeasible and 5 it is not settled, of a judgement; 14 the sequence breaks a constraint; 1 the program's text is refused, 2 the words are none
-/// of these, 3 the sequence is refused, 6 a file cannot be read, 7 an output cannot be written, 8 a limit is passed, 9 out of memory, 12 the inputs
-/// or the choices are refused, 15 the constraints are refused. With 1, 2, 3, 6, 8, 9, 12 and 15 a line stands on `err`, and with these but 9
-/// nothing on `out`. After a write that failed nothing is put.
+/// The usages are `print FILE`, `check FILE`, `replay FILE SEQUENCE`, `migrate FILE SEQUENCE`, `require FILE SEQUENCE CONSTRAINTS`,
+/// `run FILE IN CHOICES TURNS`, `judge FILE IN SEQUENCE STEPS`, `variants FILE IN SEQUENCE STEPS` and
+/// `continue FILE IN SEQUENCE CHOICES COUNT STEPS`. The statuses are 0 done; 10 no action applied any more and 11 all turns were made, of a run;
+/// 4 the sequence is infeasible and 5 it is not settled, where it is judged; 10 nothing can come any more, 5 that is not settled and 11 all events
+/// were added, of going on; 14 the sequence breaks a constraint; 1 the program's text is refused, 2 the words are none of these, 3 the sequence is
+/// refused, 6 a file cannot be read, 7 an output cannot be written, 8 a limit is passed, 9 out of memory, 12 the inputs or the choices are refused,
+/// 15 the constraints are refused. With 1, 2, 3, 6, 8, 9, 12 and 15 a line stands on `err`, and with these but 9 nothing on `out`. After a write
+/// that failed nothing is put.
 pub fn debug_main<F: TracedFiles, O: Sink, E: Sink>(
     alloc: Global,
     words: &[String],
@@ -92,5 +97,8 @@ fn carry_out<'w, F: TracedFiles, O: Sink>(
         Command::Judge(asked) => judge_command(alloc, asked, files, out),
         Command::Replay(asked) => replay_command(alloc, asked, files, out),
         Command::Require(asked) => require_command(alloc, asked, files, out),
+        Command::Migrate(asked) => migrate_command(alloc, asked, files, out),
+        Command::Variants(asked) => variants_command(alloc, asked, files, out),
+        Command::Continue(asked) => continue_command(alloc, asked, files, out),
     }
 }

@@ -22,7 +22,7 @@ use Rattle.feasible.proofs.Continuing.{views_settled}
 use Rattle.feasible.proofs.Fronts.{no_end_front}
 use Rattle.divergence.specs.JudgeText.{event_at_place}
 use Rattle.divergence.specs.Seen.{AreSettled}
-use Rattle.debug_judge.specs.declared.judged_lines.LinesVerdict.{LinesVerdict}
+use Rattle.debug_judge.specs.declared.judged_events.LinesVerdict.{LinesVerdict}
 use Rattle.debug_judge.specs.JudgeOutcomes.{AreSeen, ShowsWhy}
 use Rattle.debug_judge.specs.JudgedLines.{IsFoundOf, event_with}
 use Rattle.common_lemmas.proofs.Lists.{last_at}

@@ -19,7 +19,7 @@ use Rattle.seq_file.specs.Lines.{event_of_line}
 use Rattle.seq_file.specs.Stepping.{StandsBehind, IsRefusedBehind}
 use Rattle.task_model.specs.Machine.{ProgramWithInputs}
 use Rattle.feasible.proofs.Fronts.{no_end_front}
-use Rattle.debug_judge.specs.declared.judged_lines.LinesVerdict.{LinesVerdict}
+use Rattle.debug_judge.specs.declared.judged_events.LinesVerdict.{LinesVerdict}
 use Rattle.debug_judge.specs.JudgedLines.{IsFoundOf, behind_last}
 use Rattle.debug_judge.proofs.Giving.{nothing_follows}
 

@@ -11,7 +11,7 @@ use Rattle.task_machine.specs.Judging.{VerdictIs}
 use Rattle.feasible.specs.Keeping.{StandsFor, is_feasible}
 use Rattle.divergence.specs.JudgeText.{event_at_place}
 use Rattle.divergence.specs.Seen.{AreSettled}
-use Rattle.debug_judge.specs.declared.judged_lines.LinesVerdict.{LinesVerdict}
+use Rattle.debug_judge.specs.declared.judged_events.LinesVerdict.{LinesVerdict}
 use Rattle.debug_judge.specs.declared.judged_lines.LinesError.{LinesError}
 use Rattle.debug_judge.specs.declared.judged_lines.LinesError.TheVariants as error
 

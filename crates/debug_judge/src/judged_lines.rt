@@ -1,19 +1,17 @@
 //! Judging the lines of a sequence one after the other.
 
-ghost use Rattle.std.specs.Prelude.{◌≡◌, ◌<◌, ◌+◌, ◌-◌, ◌^◌, ◌++◌, [], ◌∷◌, ℕ, List, IfOk, IfErr, OnOk, MatchOption, Some, length};
+ghost use Rattle.std.specs.Prelude.{◌≡◌, ◌<◌, ◌-◌, ◌^◌, [], ℕ, List, IfOk, IfErr, MatchOption, Some, length};
 ghost use Rattle.event_machine.specs.declared.Event.{Event};
-ghost use Rattle.event_machine.specs.Tallies.{HasNoEnd};
 ghost use Rattle.syn_event.specs.Numbering.{Numbering};
 ghost use Rattle.seq_file.specs.Files.{most_events, SeqReads, HasFirstFault, header_fault};
 ghost use Rattle.seq_file.specs.Stepping.{StandsBehind};
-ghost use Rattle.task_model.specs.Machine.{ProgramWithInputs};
 ghost use Rattle.task_machine.specs.Table.{setup_in};
-ghost use Rattle.feasible.specs.Keeping.{is_feasible};
-ghost use Rattle.debug_judge.specs.JudgedLines.{IsFoundOf, AreFound, FailsBy, event_with, behind_last};
+ghost use Rattle.debug_judge.specs.declared.judged_lines.LinesError.TheVariants as errors;
+ghost use Rattle.debug_judge.specs.JudgedLines.{AreFound, FailsBy, behind_last};
 
+use crate::judged_events::{LinesVerdict, first_found, give};
+use ada_tree::Memory;
 use ada_value::Inputs;
-use event_machine::Event;
-use feasible::{Judge, Verdict};
 use seq_file::{SeqError, SeqLines};
 use std::alloc::Global;
 use task_links::Links;
@@ -21,16 +19,6 @@ use thiserror::Error;
 
 // A sequence has at most this many events.
 const MOST_EVENTS: u32 = 200_000;
-
-/// What is found of the lines of a sequence: the verdict of its events, their number, the event at the place of a verdict that is not feasible,
-/// and a judge that stands for all of them.
-#[derive(Drop)]
-pub struct LinesVerdict<'p> {
-    pub verdict: Verdict,
-    pub count: u32,
-    pub event: Option<Event>,
-    pub judge: Judge<'p>,
-}
 
 /// Why the lines of a sequence have no verdict.
 #[derive(Clone, Copy, Debug, PartialEq, Eq, Drop, Error)]
@@ -41,6 +29,14 @@ pub enum LinesError {
     /// There was no memory for the judge.
     #[error("out of memory")]
     Memory,
+}
+
+impl From<Memory> for LinesError {
+    ghost from_gives = { λ _ e. e ≡ errors.Memory };
+
+    fn from(_e: Memory) -> LinesError {
+        LinesError::Memory
+    }
 }
 
 /// Judges the lines of a sequence for a program, where a task may make `local_bound` local steps between the events that change it.
@@ -63,16 +59,7 @@ pub fn judge_lines<'p>(
         Ok(lines) => lines,
         Err(error) => return Err(LinesError::Seq(error)),
     };
-    let judge = match Judge::new(alloc, links, inputs, local_bound) {
-        Ok(judge) => judge,
-        Err(_) => return Err(LinesError::Memory),
-    };
-    let mut found = LinesVerdict {
-        verdict: Verdict::Feasible,
-        count: 0,
-        event: None,
-        judge,
-    };
+    let mut found = first_found(alloc, links, inputs, local_bound)?;
     for _given in 0..MOST_EVENTS {
         match lines.next() {
             Ok(Some(event)) => give(&mut found, &event)?,
@@ -93,47 +80,6 @@ fn open_lines<'a>(links: &'a Links<'_>, bytes: &'a [u8]) -> Result<SeqLines<'a>,
     ensures fault { IfErr result (λ error. header_fault links.now.program.names links.now.numbers bytes.now ≡ Some error) }
 {
     SeqLines::new(bytes, links.numbers(), &links.program().names)
-}
-
-// Gives the judge one event more.
-fn give(found: &mut LinesVerdict<'_>, event: &Event) -> Result<(), LinesError>
-    requires taken { found.old.judge.taken + 1 < 2 ^ 32 }
-    requires count { found.old.count + 1 < 2 ^ 32 }
-    ensures more { (setup : ProgramWithInputs) (numbers : Numbering) (bound : ℕ) (events : List Event) → IsFoundOf setup numbers bound events found.old → HasNoEnd events
-        → OnOk result (IsFoundOf setup numbers bound (events ++ event.now ∷ []) found.new) }
-    ensures memory { IfErr result (λ error. error ≡ LinesError.Memory) }
-{
-    match found.judge.next(event) {
-        Ok(verdict) => {
-            found.event = event_with(found.verdict, found.event, verdict, *event);
-            found.verdict = verdict;
-            found.count += 1;
-            Ok(())
-        }
-        Err(_) => Err(LinesError::Memory),
-    }
-}
-
-// The event at the place of the verdict, where one event more was given: `before` and `placed` are what was found before it.
-fn event_with(
-    before: Verdict,
-    placed: Option<Event>,
-    verdict: Verdict,
-    event: Event,
-) -> Option<Event>
-    ensures { result ≡ event_with before placed verdict event }
-{
-    if is_feasible(before) && !is_feasible(verdict) {
-        Some(event)
-    } else {
-        placed
-    }
-}
-
-fn is_feasible(verdict: Verdict) -> bool
-    ensures { result ≡ is_feasible verdict }
-{
-    matches!(verdict, Verdict::Feasible)
 }
 
 // The fault of a further line behind the last event that a sequence may have, or nothing at the end of the file.

@@ -1,8 +1,10 @@
-//! The judging of the lines of a sequence for a program, one event after the other, with the text of its verdict on the output.
+//! The judging of a sequence for a program, one event after the other, with the text of its verdict on the output.
 #![tactic(auto)]
 
+mod judged_events;
 mod judged_lines;
 mod verdict_texts;
 
-pub use judged_lines::{LinesError, LinesVerdict, judge_lines};
-pub use verdict_texts::report_lines;
+pub use judged_events::{LinesVerdict, judge_events};
+pub use judged_lines::{LinesError, judge_lines};
+pub use verdict_texts::{report_found, report_lines};

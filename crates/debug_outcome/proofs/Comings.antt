@@ -8,7 +8,7 @@ use Rattle.debug_outcome.specs.Delivery.{Sides, IsDelivered, Ends}
 use Rattle.debug_outcome.specs.Coming.{IsRefusal, stop_by, Stops, HasPut, HasBroken, Comes, Tells}
 use Rattle.debug_outcome.specs.Refusals.{refusal_line, first_words, unread_words, memory_line}
 use Rattle.debug_outcome.specs.declared.refusal.Refusal.{Refusal}
-use Rattle.debug_outcome.specs.declared.refusal.Refusal.TheVariants.{BadText, BadProgram, Usage, BadSequence, BadInputs, BadChoices, BadConstraints, Unreadable, TooLong, TooMany, LongText}
+use Rattle.debug_outcome.specs.declared.refusal.Refusal.TheVariants.{BadText, BadProgram, Usage, BadSequence, NoOrder, BadInputs, BadChoices, BadConstraints, Unreadable, TooLong, TooMany, LongText}
 use Rattle.debug_outcome.specs.declared.refusal.Listed.TheVariants.{Events, Inputs, Choices, Constraints}
 use Rattle.debug_outcome.specs.declared.refusal.TextFault.TheVariants.{Misspelled, LongToken, TooNested}
 use Rattle.debug_outcome.specs.declared.refusal.RuleFault.TheVariants.{Broken, Passed}
@@ -74,6 +74,7 @@ line_is_some (BadProgram (Broken rule line column)) e = cc
 line_is_some (BadProgram (Passed what limit)) e = cc
 line_is_some Usage e = cc
 line_is_some (BadSequence found line) e = cc
+line_is_some (NoOrder task) e = cc
 line_is_some (BadInputs found line) e = cc
 line_is_some (BadChoices found line) e = cc
 line_is_some (BadConstraints found line) e = cc

@@ -8,7 +8,7 @@ use Rattle.ada_check_rules.specs.declared.rules.refusals.Rule.TheVariants as che
 use Rattle.syn_event.specs.declared.limits.What.{What}
 use Rattle.syn_event.specs.declared.limits.What.TheVariants as counted
 use Rattle.debug_outcome.specs.declared.refusal.Refusal.{Refusal}
-use Rattle.debug_outcome.specs.declared.refusal.Refusal.TheVariants.{BadText, BadProgram, Usage, BadSequence, BadInputs, BadChoices, BadConstraints, Unreadable, TooLong, TooMany, LongText}
+use Rattle.debug_outcome.specs.declared.refusal.Refusal.TheVariants.{BadText, BadProgram, Usage, BadSequence, NoOrder, BadInputs, BadChoices, BadConstraints, Unreadable, TooLong, TooMany, LongText}
 use Rattle.debug_outcome.specs.declared.refusal.TextFault.{TextFault}
 use Rattle.debug_outcome.specs.declared.refusal.TextFault.TheVariants.{Misspelled, LongToken, TooNested}
 use Rattle.debug_outcome.specs.declared.refusal.Misspelling.{Misspelling}
@@ -42,6 +42,7 @@ refusal_status (BadText found) = text_status found
 refusal_status (BadProgram found) = rule_status found
 refusal_status Usage = 2
 refusal_status (BadSequence found line) = 3
+refusal_status (NoOrder task) = 3
 refusal_status (BadInputs found line) = 12
 refusal_status (BadChoices found line) = 12
 refusal_status (BadConstraints found line) = 15
@@ -63,6 +64,7 @@ first_words (BadProgram (Broken rule line column)) = codes "ded: program refused
 first_words (BadProgram (Passed what limit)) = codes "ded: limit "
 first_words Usage = codes "ded: usage\n"
 first_words (BadSequence found line) = codes "ded: sequence refused: "
+first_words (NoOrder task) = codes "ded: sequence refused: NoOrder at task "
 first_words (BadInputs found line) = codes "ded: inputs refused: "
 first_words (BadChoices found line) = codes "ded: choices refused: "
 first_words (BadConstraints found line) = codes "ded: constraints refused: "
@@ -137,6 +139,7 @@ fault_name fault.BadLine = codes "BadLine"
 fault_name fault.OtherProgram = codes "OtherProgram"
 fault_name fault.BadNumber = codes "BadNumber"
 fault_name fault.AfterEnd = codes "AfterEnd"
+fault_name fault.BadOrder = codes "BadOrder"
 
 -- the name of what is wrong with a line of inputs or choices
 abbrev pub input_fault_name : InputFault → List ℕ
@@ -181,6 +184,7 @@ refusal_line (BadText found) = text_line found
 refusal_line (BadProgram found) = rule_line found
 refusal_line Usage = first_words Usage
 refusal_line (BadSequence found line) = fault_line (first_words (BadSequence found line)) (fault_name found) line
+refusal_line (NoOrder task) = named_line (first_words (NoOrder task)) (decimal task)
 refusal_line (BadInputs found line) = fault_line (first_words (BadInputs found line)) (input_fault_name found) line
 refusal_line (BadChoices found line) = fault_line (first_words (BadChoices found line)) (input_fault_name found) line
 refusal_line (BadConstraints found line) = fault_line (first_words (BadConstraints found line)) (constraint_fault_name found) line

@@ -3,7 +3,7 @@
 mod loading;
 
 pub use loading::{
-    CHOICES_LIMIT, CONSTRAINTS_LIMIT, ChoiceBytes, INPUTS_LIMIT, JudgeFiles, ORIGINAL_LIMIT,
-    ReplayFiles, RequireFiles, RunFiles, SEQUENCE_LIMIT, StartFiles, TEXT_LIMIT, load_judge,
-    load_replay, load_require, load_run,
+    CHOICES_LIMIT, CONSTRAINTS_LIMIT, ChoiceBytes, ContinueFiles, INPUTS_LIMIT, JudgeFiles,
+    ORIGINAL_LIMIT, ReplayFiles, RequireFiles, RunFiles, SEQUENCE_LIMIT, StartFiles, TEXT_LIMIT,
+    load_continue, load_judge, load_replay, load_require, load_run,
 };

@@ -18,6 +18,8 @@ pub enum Refusal<'w> {
     Usage,
     /// The sequence is refused, at a line.
     BadSequence { fault: SequenceFault, line: u32 },
+    /// The sequence is refused: its lists by tasks stand for no order of events. The list of this task is the first that is not used up.
+    NoOrder { task: u32 },
     /// The inputs are refused, at a line.
     BadInputs { fault: InputFault, line: u32 },
     /// The choices are refused, at a line.
@@ -80,13 +82,15 @@ pub enum Rule {
     OfCheck(CheckRule),
 }
 
-/// What is wrong with the first bad line of a sequence.
+/// What is wrong with a line of a sequence: with the first bad one, or, `BadOrder`, with the first whose event can't follow those before it, as
+/// events alone tell.
 #[derive(Clone, Copy)]
 pub enum SequenceFault {
     BadLine,
     OtherProgram,
     BadNumber,
     AfterEnd,
+    BadOrder,
 }
 
 /// What is wrong with the first bad line of inputs or choices.
@@ -122,6 +126,7 @@ impl Refusal<'_> {
             Refusal::BadProgram(fault) => rule_status(fault),
             Refusal::Usage => 2,
             Refusal::BadSequence { .. } => 3,
+            Refusal::NoOrder { .. } => 3,
             Refusal::BadInputs { .. } => 12,
             Refusal::BadChoices { .. } => 12,
             Refusal::BadConstraints { .. } => 15,

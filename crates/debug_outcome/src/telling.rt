@@ -32,6 +32,7 @@ pub(crate) fn put_refusal<K: Sink>(refusal: Refusal<'_>, err: &mut K) -> Result<
                 err,
             )
         }
+        Refusal::NoOrder { task } => put_numbered(Refusal::NoOrder { task }, task as u64, err),
         Refusal::BadInputs { fault, line } => {
             put_fault(
                 Refusal::BadInputs { fault, line },
@@ -50,11 +51,11 @@ pub(crate) fn put_refusal<K: Sink>(refusal: Refusal<'_>, err: &mut K) -> Result<
         }
         Refusal::BadConstraints { fault, line } => put_bad_constraints(fault, line, err),
         Refusal::Unreadable(name) => put_unread(name, err),
-        Refusal::TooLong { limit } => put_limit(Refusal::TooLong { limit }, limit, err),
+        Refusal::TooLong { limit } => put_numbered(Refusal::TooLong { limit }, limit, err),
         Refusal::TooMany { what, limit } => {
-            put_limit(Refusal::TooMany { what, limit }, limit as u64, err)
+            put_numbered(Refusal::TooMany { what, limit }, limit as u64, err)
         }
-        Refusal::LongText { limit } => put_limit(Refusal::LongText { limit }, limit, err),
+        Refusal::LongText { limit } => put_numbered(Refusal::LongText { limit }, limit, err),
     }
 }
 
@@ -104,8 +105,8 @@ fn put_text_fault<K: Sink>(fault: TextFault, err: &mut K) -> Result<(), SinkErro
                 err,
             )
         }
-        TextFault::LongToken { limit } => put_limit(Refusal::BadText(fault), limit as u64, err),
-        TextFault::TooNested { limit } => put_limit(Refusal::BadText(fault), limit as u64, err),
+        TextFault::LongToken { limit } => put_numbered(Refusal::BadText(fault), limit as u64, err),
+        TextFault::TooNested { limit } => put_numbered(Refusal::BadText(fault), limit as u64, err),
     }
 }
 
@@ -173,14 +174,14 @@ fn put_unread<K: Sink>(name: &str, err: &mut K) -> Result<(), SinkError>
     err.put(b"\n")
 }
 
-// Writes that a limit is passed.
+// Writes the line of a refusal that ends with a number.
 #[tactic(auto, using(ded_io::proofs::Writes::writes))]
-fn put_limit<K: Sink>(refusal: Refusal<'_>, limit: u64, err: &mut K) -> Result<(), SinkError>
-    ensures bytes { Wrote result (K.told err.old) (K.told err.new) (named_line (first_words refusal.entry) (decimal limit)) }
+fn put_numbered<K: Sink>(refusal: Refusal<'_>, number: u64, err: &mut K) -> Result<(), SinkError>
+    ensures bytes { Wrote result (K.told err.old) (K.told err.new) (named_line (first_words refusal.entry) (decimal number)) }
     ensures cause { HasCause (K.faults err.old) (K.faults err.new) result }
 {
     err.put(first_words(refusal))?;
-    put_number(limit, err)?;
+    put_number(number, err)?;
     err.put(b"\n")
 }
 
@@ -193,6 +194,7 @@ fn name_of(fault: SequenceFault) -> &'static [u8]
         SequenceFault::OtherProgram => b"OtherProgram",
         SequenceFault::BadNumber => b"BadNumber",
         SequenceFault::AfterEnd => b"AfterEnd",
+        SequenceFault::BadOrder => b"BadOrder",
     }
 }
 
@@ -315,6 +317,7 @@ fn first_words(refusal: Refusal<'_>) -> &'static [u8]
         Refusal::BadProgram(RuleFault::Passed { .. }) => b"ded: limit ",
         Refusal::Usage => b"ded: usage\n",
         Refusal::BadSequence { .. } => b"ded: sequence refused: ",
+        Refusal::NoOrder { .. } => b"ded: sequence refused: NoOrder at task ",
         Refusal::BadInputs { .. } => b"ded: inputs refused: ",
         Refusal::BadChoices { .. } => b"ded: choices refused: ",
         Refusal::BadConstraints { .. } => b"ded: constraints refused: ",

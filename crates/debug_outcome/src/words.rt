@@ -3,5 +3,6 @@
 mod command;
 
 pub use command::{
-    Choices, Command, JudgeWords, NoWords, ReplayWords, RequireWords, RunWords, command_of,
+    Choices, Command, ContinueWords, JudgeWords, NoWords, ReplayWords, RequireWords, RunWords,
+    command_of,
 };

@@ -11,7 +11,7 @@ use Rattle.syn_event.specs.declared.numbering.Mode.TheVariants.{Original}
 use Rattle.syn_event.specs.AllNumbers.{all_numbers}
 use Rattle.syn_event.specs.Legal.{Legal}
 use Rattle.syn_event.specs.Numbering.{Numbering}
-use Rattle.seq_file.specs.Files.{SeqReads}
+use Rattle.seq_file.specs.Files.{AreFit}
 use Rattle.normal_runs.specs.forms.Normalisable.{numbers_of}
 use Rattle.normalisable.specs.Laws.{IsLegalOriginal}
 use Rattle.read_back.proofs.Whole.{read_back}
@@ -24,8 +24,11 @@ use Rattle.same_runs.proofs.Replaying.{read_text_replays}
 use Rattle.text_laws.proofs.sizes.Read.{read_has_names}
 use Rattle.debug_outcome.specs.files.Wanting.{text_limit}
 use Rattle.debug_outcome.specs.Outcomes.{Outcome}
+use Rattle.debug_sequence.specs.Sequences.{ReadsAs}
+use Rattle.debug_sequence.proofs.Sequences.{reads_fit}
 use Rattle.debug_replay.specs.inner.Printing.{printed_outcome, replay_outcome, ComeTo}
 use Rattle.debug_replay.specs.ReplayOutcomes.{ReplaysLines}
+use Rattle.debug_replay.proofs.OwnTasks.{lists_for_all}
 use Rattle.debug_replay.proofs.TextOutcomes.{long_by_length, short_by_length, outcome_within, outcome_beyond}
 
 -- the names of a text within the limit of a program have ids
@@ -38,23 +41,27 @@ record Holds (p : PProgram) (events : List Event) (types : TypeTable) (numbers :
   replays : ReplaysProgram p (replay_tree p types numbers events) events
 
 module _ (p : PProgram) (legal : IsLegalOriginal p) (lines : List ℕ) where
-  holds_own : (events : List Event) → SeqReads lines (numbers_of p) p.names events → Holds p events (types_in p) (numbers_of p)
-  holds_own events reads = record { is_text = replay_is_as_promised p events legal reads.fit.known; replays = legal_texts_replay p events legal reads.fit.known }
+  holds_own : (events : List Event) → AreFit (numbers_of p) events → Holds p events (types_in p) (numbers_of p)
+  holds_own events fit = record { is_text = replay_is_as_promised p events legal fit.known; replays = legal_texts_replay p events legal fit.known }
 
-  holds : (types : TypeTable) (numbers : Numbering) → Legal p types numbers Original → (events : List Event) → SeqReads lines numbers p.names events → Holds p events types numbers
+  holds : (types : TypeTable) (numbers : Numbering) → Legal p types numbers Original → (events : List Event) → AreFit numbers events → Holds p events types numbers
   holds types numbers own =
       let n : numbers ≡ numbers_of p = own.its_numbers ∙ ap (λ (t : TypeTable). all_numbers t p) own.its_types in
-      subst (λ t. (events : List Event) → SeqReads lines numbers p.names events → Holds p events t numbers) (sym own.its_types)
-      (subst (λ m. (events : List Event) → SeqReads lines m p.names events → Holds p events (types_in p) m) (sym n) holds_own)
+      subst (λ t. (events : List Event) → AreFit numbers events → Holds p events t numbers) (sym own.its_types)
+      (subst (λ m. (events : List Event) → AreFit m events → Holds p events (types_in p) m) (sym n) holds_own)
 
   module _ (types : TypeTable) (numbers : Numbering) (own : Legal p types numbers Original) where
-    printed : (events : List Event) (o : Outcome) → SeqReads lines numbers p.names events → length events ≤ most_events → (b : Bool) →
+    fit : (events : List Event) → ReadsAs lines numbers p.names events → AreFit numbers events
+    fit events reads =
+        reads_fit p.names numbers lines events (lists_for_all p types numbers legal.placed own) reads
+
+    printed : (events : List Event) (o : Outcome) → ReadsAs lines numbers p.names events → length events ≤ most_events → (b : Bool) →
         nat_lt text_limit (length (program_text (replay_tree p types numbers events))) ≡ b → o ≡ printed_outcome (replay_tree p types numbers events) → ReplaysLines p types numbers lines o
     printed events o reads few true h is =
         let more : text_limit < length (program_text (replay_tree p types numbers events)) = grind (arith, nat_tests) in
         inr (inl (record { events = events; reads = reads; limit = inr (few, more, is ∙ sym (long_by_length (replay_tree p types numbers events) more)) }))
     printed events o reads few false h is =
-        let k : Holds p events types numbers = holds types numbers own events reads in
+        let k : Holds p events types numbers = holds types numbers own events (fit events reads) in
         let short : length (program_text (replay_tree p types numbers events)) ≤ text_limit = grind (arith, nat_tests) in
         inl (record {
           events = events;
@@ -70,7 +77,7 @@ module _ (p : PProgram) (legal : IsLegalOriginal p) (lines : List ℕ) where
           is = is ∙ sym (short_by_length (replay_tree p types numbers events) short);
         })
 
-    within : (events : List Event) (o : Outcome) → SeqReads lines numbers p.names events → (b : Bool) → nat_lt most_events (length events) ≡ b → o ≡ replay_outcome (replayed p types numbers events) → ReplaysLines p types numbers lines o
+    within : (events : List Event) (o : Outcome) → ReadsAs lines numbers p.names events → (b : Bool) → nat_lt most_events (length events) ≡ b → o ≡ replay_outcome (replayed p types numbers events) → ReplaysLines p types numbers lines o
     within events o reads true h is =
         let more : most_events < length events = grind (arith, nat_tests) in
         inr (inl (record { events = events; reads = reads; limit = inl (more, is ∙ outcome_beyond p types numbers events more) }))

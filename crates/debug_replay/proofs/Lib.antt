@@ -1,3 +1,4 @@
+pub mod OwnTasks
 pub mod TextOutcomes
 pub mod OneReplay
 pub mod Keeping

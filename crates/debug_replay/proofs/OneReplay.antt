@@ -1,16 +1,16 @@
 -- The lines of a sequence call for one outcome of replaying.
-use Rattle.std.proofs.Common.{◌≡◌, true, ℕ, List, Ok, inl, inr, sym, ap, ◌∙◌}
+use Rattle.std.proofs.Common.{◌≡◌, true, ℕ, List, length, Ok, inl, inr, sym, ap, ◌∙◌}
 use Rattle.ada_tree.specs.PlainProgram.{PProgram}
 use Rattle.ada_tree.specs.TypeTable.{TypeTable}
 use Rattle.event_machine.specs.declared.Event.{Event}
 use Rattle.syn_event.specs.Numbering.{Numbering}
 use Rattle.syn_event.specs.DeclaredTasks.{text_of}
 use Rattle.seq_file.specs.Lines.{is_upper_name}
+use Rattle.seq_file.specs.Lists.{list_count}
 use Rattle.seq_file.specs.Short.{IsShort}
-use Rattle.seq_file.proofs.Filing.{reads-unique}
 use Rattle.replay_model.specs.ReplayTree.{replay_tree, replayed}
 use Rattle.debug_outcome.specs.Outcomes.{Outcome}
-use Rattle.debug_outcome.proofs.sequences.Telling.{one_bad_sequence, read_or_bad}
+use Rattle.debug_sequence.proofs.Sequences.{reads_as_unique, read_or_refused, one_refused}
 use Rattle.debug_replay.specs.inner.Printing.{replay_outcome, ComeTo}
 use Rattle.debug_replay.specs.ReplayOutcomes.{IsReplayWritten, PassesLimit, ReplaysLines}
 use Rattle.debug_replay.proofs.TextOutcomes.{long_by_length, short_by_length, outcome_within, outcome_beyond}
@@ -34,14 +34,15 @@ module _ (p : PProgram) (types : TypeTable) (numbers : Numbering) (lines : List 
   come_to o (inr (inl h)) = inl (record { events = h.events; reads = h.reads; is = beyond h.events o h.limit })
   come_to o (inr (inr h)) = inr h
 
-module _ (p : PProgram) (types : TypeTable) (numbers : Numbering) (short : IsShort numbers) (upper : is_upper_name (text_of p.names numbers.main) ≡ true) (lines : List ℕ) where
+module _ (p : PProgram) (types : TypeTable) (numbers : Numbering) (short : IsShort numbers) (upper : is_upper_name (text_of p.names numbers.main) ≡ true) (tasks : length numbers.tasks ≡ list_count numbers)
+    (lines : List ℕ) where
   one_come : (o q : Outcome) → ComeTo p types numbers lines o → ComeTo p types numbers lines q → o ≡ q
   one_come o q (inl h) (inl k) =
-      let same : h.events ≡ k.events = reads-unique p.names numbers short lines h.events k.events h.reads k.reads in
+      let same : h.events ≡ k.events = reads_as_unique p.names numbers short upper tasks lines h.events k.events h.reads k.reads in
       h.is ∙ ap (λ (events : List Event). replay_outcome (replayed p types numbers events)) same ∙ sym k.is
-  one_come o q (inl h) (inr k) = absurd (read_or_bad p.names numbers short upper lines h.events q h.reads k)
-  one_come o q (inr h) (inl k) = absurd (read_or_bad p.names numbers short upper lines k.events o k.reads h)
-  one_come o q (inr h) (inr k) = one_bad_sequence p.names numbers short upper lines o q h k
+  one_come o q (inl h) (inr k) = absurd (read_or_refused p.names numbers short upper tasks lines h.events q h.reads k)
+  one_come o q (inr h) (inl k) = absurd (read_or_refused p.names numbers short upper tasks lines k.events o k.reads h)
+  one_come o q (inr h) (inr k) = one_refused p.names numbers short upper tasks lines o q h k
 
   pub one_replay : (o q : Outcome) → ReplaysLines p types numbers lines o → ReplaysLines p types numbers lines q → o ≡ q
   one_replay o q h k = one_come o q (come_to p types numbers lines o h) (come_to p types numbers lines q k)

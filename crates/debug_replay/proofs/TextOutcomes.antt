@@ -7,7 +7,6 @@ use Rattle.ada_tree.specs.TypeTable.{TypeTable}
 use Rattle.ada_printer.specs.ProgramText.{program_text}
 use Rattle.event_machine.specs.declared.Event.{Event}
 use Rattle.syn_event.specs.Numbering.{Numbering}
-use Rattle.seq_file.specs.Files.{SeqReads}
 use Rattle.normal_form.specs.declared.errors.XformError.{XformError}
 use Rattle.normal_form.specs.declared.errors.XformError.TheVariants as error
 use Rattle.replay_model.specs.ReplayTree.{most_events, replay_tree, replayed}
@@ -16,6 +15,7 @@ use Rattle.debug_outcome.specs.Coming.{Stops, stop_by}
 use Rattle.debug_outcome.specs.Outcomes.{Outcome, writes, refuses}
 use Rattle.debug_outcome.specs.declared.refusal.Refusal.TheVariants.{LongText, TooMany}
 use Rattle.debug_outcome.specs.declared.refusal.Listed.TheVariants.{Events}
+use Rattle.debug_sequence.specs.Sequences.{ReadsAs}
 use Rattle.debug_replay.specs.inner.Printing.{printed_outcome, replay_outcome, ComeTo}
 use Rattle.debug_replay.specs.ReplayOutcomes.{refusal_of_replay}
 use Rattle.common_lemmas.proofs.Numbers.{lt_false, lt_true}
@@ -63,7 +63,7 @@ one_error {A} r e d h k = ap (λ (x : Result A XformError). error_or x e) (sym h
 
 -- ---- the replay text of the events that the lines are
 
-module _ (p : PProgram) (types : TypeTable) (numbers : Numbering) (lines : List ℕ) (events : List Event) (reads : SeqReads lines numbers p.names events) where
+module _ (p : PProgram) (types : TypeTable) (numbers : Numbering) (lines : List ℕ) (events : List Event) (reads : ReadsAs lines numbers p.names events) where
   pub text_called : (text : PProgram) (o : Outcome) → replayed p types numbers events ≡ Ok text → o ≡ printed_outcome text → ComeTo p types numbers lines o
   text_called text o made is = inl (record { events = events; reads = reads; is = is ∙ sym (ap replay_outcome made) })
 

@@ -1,4 +1,4 @@
--- What replaying a sequence comes to: a text that replays it, a limit that is passed, or the fault of the first bad line (this project's rules).
+-- What replaying a sequence comes to: a text that replays it, a limit that is passed, or why the lines are no sequence (this project's rules).
 use Rattle.std.specs.Prelude.{◌≡◌, ◌<◌, ◌≤◌, ℕ, List, length, Option, Some, None, ◌⊎◌}
 use Rattle.ada_tree.specs.PlainProgram.{PProgram}
 use Rattle.ada_tree.specs.Same.{Same}
@@ -7,7 +7,6 @@ use Rattle.ada_parser.specs.Reads.{Reads}
 use Rattle.ada_printer.specs.ProgramText.{program_text}
 use Rattle.event_machine.specs.declared.Event.{Event}
 use Rattle.syn_event.specs.Numbering.{Numbering}
-use Rattle.seq_file.specs.Files.{SeqReads}
 use Rattle.normal_form.specs.declared.errors.XformError.{XformError}
 use Rattle.normal_form.specs.declared.errors.XformError.TheVariants as error
 use Rattle.replay_model.specs.Promised.{IsReplayText}
@@ -19,7 +18,7 @@ use Rattle.debug_outcome.specs.Outcomes.{Outcome, writes, refuses}
 use Rattle.debug_outcome.specs.declared.refusal.Refusal.{Refusal}
 use Rattle.debug_outcome.specs.declared.refusal.Refusal.TheVariants.{LongText, TooMany}
 use Rattle.debug_outcome.specs.declared.refusal.Listed.TheVariants.{Events}
-use Rattle.debug_outcome.specs.sequences.BadSequences.{IsBadSequence}
+use Rattle.debug_sequence.specs.Sequences.{ReadsAs, IsRefusedSequence}
 
 -- The lines are a sequence of the program with these types and numbers, and the outcome is the text of another program, their replay text. That is
 -- legal as a text of any kind and read back as the same. Whatever the inputs and the schedule, it shows nothing but events of the sequence, in order;
@@ -27,7 +26,7 @@ use Rattle.debug_outcome.specs.sequences.BadSequences.{IsBadSequence}
 -- what is printed. Both are within their limits.
 pub record IsReplayWritten (p : PProgram) (types : TypeTable) (numbers : Numbering) (lines : List ℕ) (o : Outcome) : Type 0 where
   pub events : List Event
-  pub reads : SeqReads lines numbers p.names events
+  pub reads : ReadsAs lines numbers p.names events
   pub text : PProgram
   pub is_text : IsReplayText p types numbers events text
   pub read_back : IsReadAsSame text
@@ -45,12 +44,12 @@ PassesLimit p types numbers events o =
 
 pub record IsPastLimit (p : PProgram) (types : TypeTable) (numbers : Numbering) (lines : List ℕ) (o : Outcome) : Type 0 where
   pub events : List Event
-  pub reads : SeqReads lines numbers p.names events
+  pub reads : ReadsAs lines numbers p.names events
   pub limit : PassesLimit p types numbers events o
 
 -- The lines of a sequence call for this outcome.
 abbrev pub ReplaysLines : PProgram → TypeTable → Numbering → List ℕ → Outcome → Type 0
-ReplaysLines p types numbers lines o = IsReplayWritten p types numbers lines o ⊎ (IsPastLimit p types numbers lines o ⊎ IsBadSequence p.names numbers lines o)
+ReplaysLines p types numbers lines o = IsReplayWritten p types numbers lines o ⊎ (IsPastLimit p types numbers lines o ⊎ IsRefusedSequence p.names numbers lines o)
 
 -- the refusal for each error of replaying; none for want of memory, nor for an abort statement, at which no replaying stops
 abbrev pub refusal_of_replay : XformError → Option Refusal

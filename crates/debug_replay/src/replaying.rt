@@ -14,20 +14,18 @@ ghost use Rattle.debug_replay.specs.ReplayOutcomes.{ReplaysLines, refusal_of_rep
 use ada_printer::{print, text_len};
 use ada_tree::{Program, Types};
 use debug_outcome::files::TEXT_LIMIT;
-use debug_outcome::sequences::sequence_failure;
 use debug_outcome::{Listed, Refusal, Stop};
+use debug_sequence::read_sequence;
 use ded_io::Sink;
 use normal_form::XformError;
 use replay_xform::replay;
-use seq_file::read_seq;
 use std::alloc::Global;
 use syn_event::Numbers;
 
 /// Writes the replay text of a legal original with its types and numbers and of the sequence that the lines are, and answers 0. Whatever the
 /// inputs and the schedule, that text shows nothing but events of the sequence, in order. It can always go on to all that are feasible, and
-/// where it ends it has shown these. Lines that are no
-/// sequence of the program are refused with the fault of the first bad one; so are more events than are replayed, and a text that is longer than
-/// a program that is run. All of the text is made before any of it is put.
+/// where it ends it has shown these. The lines may be a list or by tasks. Where they are no sequence of the program it is refused why; so are
+/// more events than are replayed, and a text that is longer than a program that is run. All of the text is made before any of it is put.
 pub fn write_replay<'w, K: Sink>(
     alloc: Global,
     program: &Program,
@@ -42,9 +40,9 @@ pub fn write_replay<'w, K: Sink>(
     requires name { is_upper_name (text_of program.now.names numbers.now.main) ≡ true }
     ensures { Comes (ReplaysLines (plain_program program.now) types.now numbers.now lines.now) Never (K.told out.old) (K.told out.new) (K.faults out.old) (K.faults out.new) result }
 {
-    let events = match read_seq(alloc, lines, numbers, &program.names) {
+    let events = match read_sequence(alloc, lines, numbers, &program.names) {
         Ok(events) => events,
-        Err(error) => return Err(sequence_failure(error)),
+        Err(stop) => return Err(stop),
     };
     match replay(alloc, program, types, numbers, &events) {
         Ok(text) => put_text(&text, out),

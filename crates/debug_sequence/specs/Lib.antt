@@ -1,2 +1,4 @@
+pub mod Sequences
+pub mod MigrateOutcomes
 pub mod RequireOutcomes
 pub mod inner

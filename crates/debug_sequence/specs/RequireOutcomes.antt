@@ -6,7 +6,6 @@ use Rattle.event_machine.specs.declared.Event.{Event}
 use Rattle.syn_event.specs.EventText.{event_text}
 use Rattle.syn_event.specs.Numbering.{Numbering}
 use Rattle.text_lines.specs.LineFiles.{HasFirstFault}
-use Rattle.seq_file.specs.Files.{SeqReads}
 use Rattle.syn_constraint.specs.declared.constraints.Constraint.{Constraint}
 use Rattle.syn_constraint.specs.declared.errors.ConError.{ConError}
 use Rattle.syn_constraint.specs.declared.errors.ConError.TheVariants as error
@@ -18,9 +17,9 @@ use Rattle.debug_outcome.specs.declared.refusal.Refusal.{Refusal}
 use Rattle.debug_outcome.specs.declared.refusal.Refusal.TheVariants.{BadConstraints, TooMany}
 use Rattle.debug_outcome.specs.declared.refusal.ConstraintFault.TheVariants as fault
 use Rattle.debug_outcome.specs.declared.refusal.Listed.TheVariants as listed
-use Rattle.debug_outcome.specs.sequences.BadSequences.{IsBadSequence}
 use Rattle.debug_sequence.specs.declared.requiring.Broken.{Broken}
 use Rattle.debug_sequence.specs.declared.requiring.Finding.{Finding}
+use Rattle.debug_sequence.specs.Sequences.{ReadsAs, IsRefusedSequence}
 
 -- ---- what is found of constraints
 
@@ -97,12 +96,12 @@ pub record AreReadAndTold (numbers : Numbering) (events : List Event) (bytes : L
 abbrev pub RequiresBytes : Numbering → List Event → List ℕ → Outcome → Type 0
 RequiresBytes numbers events bytes o = AreReadAndTold numbers events bytes o ⊎ AreBadConstraints numbers bytes o
 
--- The lines are a sequence of the program, and the constraints call for the outcome for its events, whether they can happen or not.
+-- The lines are a sequence of the program, in either format, and the constraints call for the outcome for its events, whether they can happen or not.
 pub record IsRequired (names : List (List ℕ)) (numbers : Numbering) (lines bytes : List ℕ) (o : Outcome) : Type 0 where
   pub events : List Event
-  pub reads : SeqReads lines numbers names events
+  pub reads : ReadsAs lines numbers names events
   pub required : RequiresBytes numbers events bytes o
 
 -- The lines of a sequence and the bytes of constraints call for this outcome: a fault of the sequence goes before one of the constraints.
 abbrev pub RequiresLines : List (List ℕ) → Numbering → List ℕ → List ℕ → Outcome → Type 0
-RequiresLines names numbers lines bytes o = IsRequired names numbers lines bytes o ⊎ IsBadSequence names numbers lines o
+RequiresLines names numbers lines bytes o = IsRequired names numbers lines bytes o ⊎ IsRefusedSequence names numbers lines o

@@ -35,7 +35,30 @@ pub fn variants(
     ensures same_numbers { j.new.numbers ≡ j.old.numbers }
     ensures bound { j.new.bound ≡ j.old.bound }
     ensures taken { j.new.taken ≡ j.old.taken }
-    ensures verdict { OnOk result (j.new.verdict ≡ j.old.verdict) }
+    ensures verdict { j.new.verdict ≡ j.old.verdict }
+    ensures kept { OnOk result (j.old.lost ≡ false) }
+    ensures none { OnErr result ((found.new.items ≡ []) × (unsettled.new.items ≡ [])) }
+    ensures lost { OnErr result (j.new.lost ≡ true) }
+{
+    list_variants(alloc, j, numbers, skip, found, unsettled)
+}
+
+// The same of any judge; what is found is said of one whose events are feasible.
+pub(crate) fn list_variants(
+    alloc: Global,
+    j: &mut Judge,
+    numbers: &Numbers,
+    skip: Option<&Event>,
+    found: &mut Vec<Event>,
+    unsettled: &mut Vec<u32>,
+) -> Result<(), Memory>
+    requires numbers { numbers.now ≡ j.old.numbers }
+    ensures variants { (setup : ProgramWithInputs) (events : List event.Event) → StandsFor setup events j.old → is_feasible j.old.verdict ≡ true → OnOk result (AreVariants setup j.old.numbers j.old.bound events (option_copied skip.entry) found.new.items unsettled.new.items) }
+    ensures stands { (setup : ProgramWithInputs) (events : List event.Event) → StandsFor setup events j.old → OnOk result (StandsFor setup events j.new) }
+    ensures same_numbers { j.new.numbers ≡ j.old.numbers }
+    ensures bound { j.new.bound ≡ j.old.bound }
+    ensures taken { j.new.taken ≡ j.old.taken }
+    ensures verdict { j.new.verdict ≡ j.old.verdict }
     ensures kept { OnOk result (j.old.lost ≡ false) }
     ensures none { OnErr result ((found.new.items ≡ []) × (unsettled.new.items ≡ [])) }
     ensures lost { OnErr result (j.new.lost ≡ true) }
@@ -62,11 +85,10 @@ fn find_kept(
     found: &mut Vec<Event>,
     unsettled: &mut Vec<u32>,
 ) -> Result<(), Memory>
-    requires feasible { is_feasible j.old.verdict ≡ true }
     requires numbers { numbers.now ≡ j.old.numbers }
     requires none { found.old.items ≡ [] }
     requires nobody { unsettled.old.items ≡ [] }
-    ensures variants { (setup : ProgramWithInputs) (events : List event.Event) → StandsFor setup events j.old → OnOk result (AreVariants setup j.old.numbers j.old.bound events (option_copied skip.entry) found.new.items unsettled.new.items) }
+    ensures variants { (setup : ProgramWithInputs) (events : List event.Event) → StandsFor setup events j.old → is_feasible j.old.verdict ≡ true → OnOk result (AreVariants setup j.old.numbers j.old.bound events (option_copied skip.entry) found.new.items unsettled.new.items) }
     ensures stands { (setup : ProgramWithInputs) (events : List event.Event) → StandsFor setup events j.old → OnOk result (StandsFor setup events j.new) }
     ensures same_numbers { j.new.numbers ≡ j.old.numbers }
     ensures bound { j.new.bound ≡ j.old.bound }
@@ -88,11 +110,10 @@ fn find(
     found: &mut Vec<Event>,
     unsettled: &mut Vec<u32>,
 ) -> Result<(), Memory>
-    requires feasible { is_feasible j.old.verdict ≡ true }
     requires numbers { numbers.now ≡ j.old.numbers }
     requires none { found.old.items ≡ [] }
     requires nobody { unsettled.old.items ≡ [] }
-    ensures variants { (setup : ProgramWithInputs) (events : List event.Event) → StandsFor setup events j.old → OnOk result (AreVariants setup j.old.numbers j.old.bound events (option_copied skip.entry) found.new.items unsettled.new.items) }
+    ensures variants { (setup : ProgramWithInputs) (events : List event.Event) → StandsFor setup events j.old → is_feasible j.old.verdict ≡ true → OnOk result (AreVariants setup j.old.numbers j.old.bound events (option_copied skip.entry) found.new.items unsettled.new.items) }
     ensures stands { (setup : ProgramWithInputs) (events : List event.Event) → StandsFor setup events j.old → OnOk result (StandsFor setup events j.new) }
     ensures same_numbers { j.new.numbers ≡ j.old.numbers }
     ensures bound { j.new.bound ≡ j.old.bound }

@@ -1,4 +1,4 @@
--- What the files of a command give: their bytes in order, and the choices of a run (this project's rules).
+-- What the files of a command give: their bytes in order, and the choices (this project's rules).
 use Rattle.std.specs.Prelude.{◌≡◌, ◌<◌, ◌≤◌, ◌-◌, ◌^◌, ℕ, List, [], ◌∷◌, ◌++◌, length, Option, option_map, option_to_list, IfSome, ⊤}
 use Rattle.debug_outcome.specs.words.Words.{ChoiceSource, NoChoices, ChoicesIn, ChoicesBy}
 use Rattle.debug_outcome.specs.declared.files.loading.ChoiceBytes.{ChoiceBytes}
@@ -8,9 +8,10 @@ use Rattle.debug_outcome.specs.declared.files.loading.RunFiles.{RunFiles}
 use Rattle.debug_outcome.specs.declared.files.loading.JudgeFiles.{JudgeFiles}
 use Rattle.debug_outcome.specs.declared.files.loading.ReplayFiles.{ReplayFiles}
 use Rattle.debug_outcome.specs.declared.files.loading.RequireFiles.{RequireFiles}
+use Rattle.debug_outcome.specs.declared.files.loading.ContinueFiles.{ContinueFiles}
 use Rattle.debug_outcome.specs.files.Wanting.{original_bytes}
 
--- The choices of a run, before any of their lines is read.
+-- The choices of a run, or of going on, before any of their lines is read.
 pub data Given : Type 0 where
   -- an empty list of choices
   NothingGiven : Given
@@ -56,6 +57,9 @@ replay_contents files = files.text.items ∷ files.sequence.items ∷ []
 abbrev pub require_contents : RequireFiles → List (List ℕ)
 require_contents files = replay_contents files.sequenced ++ (files.constraints.items ∷ [])
 
+abbrev pub continue_contents : ContinueFiles → List (List ℕ)
+continue_contents files = judge_contents files.judged ++ given_bytes (given_as files.choices)
+
 -- there are few enough bytes that each place in them is a number of 32 bits
 abbrev pub IsShort : List ℕ → Type 0
 IsShort bytes = length bytes < 2 ^ 32 - 1
@@ -80,3 +84,6 @@ IsShortReplay files = (length files.text.items ≤ original_bytes) × IsShort fi
 
 abbrev pub IsShortRequire : RequireFiles → Type 0
 IsShortRequire files = IsShortReplay files.sequenced × IsShort files.constraints.items
+
+abbrev pub IsShortContinue : ContinueFiles → Type 0
+IsShortContinue files = IsShortJudge files.judged × AreShortChoices files.choices

@@ -1,6 +1,6 @@
 -- Which files are loaded for what is asked, and how many bytes each may have (this project's rules).
 use Rattle.std.specs.Prelude.{ℕ, List, [], ◌∷◌, ◌++◌, Option}
-use Rattle.debug_outcome.specs.words.Words.{Asked, AsksPrint, AsksCheck, AsksRun, AsksJudge, AsksReplay, AsksRequire, ChoiceSource, NoChoices, ChoicesIn, ChoicesBy}
+use Rattle.debug_outcome.specs.words.Words.{Asked, AsksPrint, AsksCheck, AsksRun, AsksJudge, AsksReplay, AsksRequire, AsksMigrate, AsksVariants, AsksContinue, ChoiceSource, NoChoices, ChoicesIn, ChoicesBy}
 use Rattle.debug_outcome.specs.Loads.{file_named, files_named}
 use Rattle.debug_outcome.specs.Traces.{Wanted}
 
@@ -18,7 +18,7 @@ inputs_limit = 4194304
 
 -- a file of a sequence has at most so many bytes (this project's limit)
 abbrev pub sequence_limit : ℕ
-sequence_limit = 8388608
+sequence_limit = 16777216
 
 -- a file of choices has at most so many bytes (this project's limit)
 abbrev pub choices_limit : ℕ
@@ -53,6 +53,10 @@ replay_files file sequence = file_named file original_bytes ∷ file_named seque
 abbrev pub require_files : List ℕ → List ℕ → List ℕ → List Wanted
 require_files file sequence constraints = replay_files file sequence ++ (file_named constraints constraints_limit ∷ [])
 
+-- the files of a judgement, and the choices where they stand in a file
+abbrev pub continue_files : List ℕ → Option (List ℕ) → List ℕ → ChoiceSource → List Wanted
+continue_files file inputs sequence choices = judge_files file inputs sequence ++ choice_files choices
+
 -- The files that are loaded for what is asked, in the order of the words.
 abbrev pub wanted_by : Asked → List Wanted
 wanted_by (AsksPrint file) = file_named file text_limit ∷ []
@@ -61,3 +65,6 @@ wanted_by (AsksRun file inputs choices turns) = run_files file inputs choices
 wanted_by (AsksJudge file inputs sequence bound) = judge_files file inputs sequence
 wanted_by (AsksReplay file sequence) = replay_files file sequence
 wanted_by (AsksRequire file sequence constraints) = require_files file sequence constraints
+wanted_by (AsksMigrate file sequence) = replay_files file sequence
+wanted_by (AsksVariants file inputs sequence bound) = judge_files file inputs sequence
+wanted_by (AsksContinue file inputs sequence choices count bound) = continue_files file inputs sequence choices

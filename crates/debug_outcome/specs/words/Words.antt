@@ -2,7 +2,7 @@
 use Rattle.std.specs.Prelude.{ℕ, ◌+◌, ◌-◌, ◌*◌, Bool, false, not, ◌&&◌, ◌||◌, nat_le, List, [], ◌∷◌, length, drop, nat_eq, Option, Some, None, option_map, option_and_then, if◌then◌else◌, codes, bytes_eq}
 use Rattle.std.specs.List.{starts_with}
 
--- Where the choices of a run come from.
+-- Where the choices of a run, or of going on, come from.
 pub data ChoiceSource : Type 0 where
   -- nowhere: an empty list of choices
   NoChoices : ChoiceSource
@@ -25,6 +25,12 @@ pub data Asked : Type 0 where
   AsksReplay : List ℕ → List ℕ → Asked
   -- which of the constraints in the third file the sequence in the second breaks, for the program in the first
   AsksRequire : List ℕ → List ℕ → List ℕ → Asked
+  -- the sequence in the second file in the other format, for the program in the first
+  AsksMigrate : List ℕ → List ℕ → Asked
+  -- what else can come at each place of the sequence in the last file, for the program in the first, with inputs and a number of local steps as of judging
+  AsksVariants : List ℕ → Option (List ℕ) → List ℕ → ℕ → Asked
+  -- going on from the sequence in the second file, for the program in the first, with inputs, choices, a greatest number of events and a number of local steps
+  AsksContinue : List ℕ → Option (List ℕ) → List ℕ → ChoiceSource → ℕ → ℕ → Asked
 
 -- the value of decimal digits behind a value so far
 abbrev pub digits_value : ℕ → List ℕ → Option ℕ
@@ -44,6 +50,10 @@ up_to most n = if nat_le n most then Some n else None
 -- a number from 1 to 100,000,000 in decimal without leading zeros, so of at most nine digits
 abbrev pub number_of : List ℕ → Option ℕ
 number_of word = if begins_well word && nat_le (length word) 9 then option_and_then (up_to 100000000) (digits_value 0 word) else None
+
+-- a number from 1 to 100,000 in decimal without leading zeros, so of at most six digits
+abbrev pub count_of : List ℕ → Option ℕ
+count_of word = if begins_well word && nat_le (length word) 6 then option_and_then (up_to 100000) (digits_value 0 word) else None
 
 -- the one digit 0
 abbrev pub is_zero : List ℕ → Bool
@@ -81,14 +91,30 @@ asks_run file inputs choices number =
 abbrev pub asks_judge : List ℕ → List ℕ → List ℕ → List ℕ → Option Asked
 asks_judge file inputs sequence number = option_map (AsksJudge file (inputs_of inputs) sequence) (number_of number)
 
+-- the variants of a sequence, where the words behind the file are as for judging
+abbrev pub asks_variants : List ℕ → List ℕ → List ℕ → List ℕ → Option Asked
+asks_variants file inputs sequence number = option_map (AsksVariants file (inputs_of inputs) sequence) (number_of number)
+
+-- going on from a sequence: behind the file stand inputs, the name of a file of a sequence, choices, a number of events and a number of local steps
+abbrev pub asks_continue : List ℕ → List ℕ → List ℕ → List ℕ → List ℕ → List ℕ → Option Asked
+asks_continue file inputs sequence choices count number =
+    option_and_then
+    (λ source. option_and_then (λ most. option_map (AsksContinue file (inputs_of inputs) sequence source most) (number_of number)) (count_of count))
+    (choice_source choices)
+
 -- the usages of two words
 abbrev pub asks_of_one : List ℕ → List ℕ → Option Asked
 asks_of_one command file =
     if bytes_eq command (codes "print") then Some (AsksPrint file) else (if bytes_eq command (codes "check") then Some (AsksCheck file) else None)
 
--- the usage of three words
+-- the usages of three words
 abbrev pub asks_of_two : List ℕ → List ℕ → List ℕ → Option Asked
-asks_of_two command file sequence = if bytes_eq command (codes "replay") then Some (AsksReplay file sequence) else None
+asks_of_two command file sequence =
+    if bytes_eq command (codes "replay")
+    then Some (AsksReplay file sequence)
+    else (if bytes_eq command (codes "migrate")
+    then Some (AsksMigrate file sequence)
+    else None)
 
 -- the usage of four words
 abbrev pub asks_of_three : List ℕ → List ℕ → List ℕ → List ℕ → Option Asked
@@ -102,12 +128,21 @@ asks_of_four command file inputs other number =
     then asks_run file inputs other number
     else (if bytes_eq command (codes "judge")
     then asks_judge file inputs other number
-    else None)
+    else (if bytes_eq command (codes "variants")
+    then asks_variants file inputs other number
+    else None))
 
--- print FILE, check FILE, replay FILE SEQUENCE, require FILE SEQUENCE CONSTRAINTS, run FILE IN CHOICES TURNS, and judge FILE IN SEQUENCE STEPS
+-- the usage of seven words
+abbrev pub asks_of_six : List ℕ → List ℕ → List ℕ → List ℕ → List ℕ → List ℕ → List ℕ → Option Asked
+asks_of_six command file inputs sequence choices count number =
+    if bytes_eq command (codes "continue") then asks_continue file inputs sequence choices count number else None
+
+-- print FILE, check FILE, replay FILE SEQUENCE, migrate FILE SEQUENCE, require FILE SEQUENCE CONSTRAINTS, run FILE IN CHOICES TURNS,
+-- judge FILE IN SEQUENCE STEPS, variants FILE IN SEQUENCE STEPS, and continue FILE IN SEQUENCE CHOICES COUNT STEPS
 abbrev pub asked_by : List (List ℕ) → Option Asked
 asked_by (command ∷ file ∷ []) = asks_of_one command file
 asked_by (command ∷ file ∷ sequence ∷ []) = asks_of_two command file sequence
 asked_by (command ∷ file ∷ sequence ∷ constraints ∷ []) = asks_of_three command file sequence constraints
 asked_by (command ∷ file ∷ inputs ∷ other ∷ number ∷ []) = asks_of_four command file inputs other number
+asked_by (command ∷ file ∷ inputs ∷ sequence ∷ choices ∷ count ∷ number ∷ []) = asks_of_six command file inputs sequence choices count number
 asked_by _ = None

@@ -1,13 +1,13 @@
-//! Loading the files of a run, of a judgement, of a replaying and of a requiring.
+//! Loading the files of a run, of a judgement, of going on, of a replaying and of a requiring.
 
 ghost use Rattle.std.specs.Prelude.{◌≡◌, ◌≤◌, ◌<◌, ◌-◌, ◌^◌, is_some, IfOk};
 ghost use Rattle.debug_outcome.specs.words.Commands.{name_as, source_as};
 ghost use Rattle.debug_outcome.specs.Loads.{CameOf};
 ghost use Rattle.debug_outcome.specs.Traces.{HasLoads};
-ghost use Rattle.debug_outcome.specs.files.Giving.{IsGivenBy, given_as, given_bytes, start_contents, run_contents, judge_contents, replay_contents, require_contents, IsShortStart, AreShortChoices, IsShortRun, IsShortJudge, IsShortReplay, IsShortRequire};
-ghost use Rattle.debug_outcome.specs.files.Wanting.{choice_files, start_files, run_files, judge_files, replay_files, require_files};
+ghost use Rattle.debug_outcome.specs.files.Giving.{IsGivenBy, given_as, given_bytes, start_contents, run_contents, judge_contents, replay_contents, require_contents, continue_contents, IsShortStart, AreShortChoices, IsShortRun, IsShortJudge, IsShortReplay, IsShortRequire, IsShortContinue};
+ghost use Rattle.debug_outcome.specs.files.Wanting.{choice_files, start_files, run_files, judge_files, replay_files, require_files, continue_files};
 
-use crate::words::{Choices, JudgeWords, ReplayWords, RequireWords, RunWords};
+use crate::words::{Choices, ContinueWords, JudgeWords, ReplayWords, RequireWords, RunWords};
 use crate::{Stop, TracedFiles, load_file, load_named};
 use std::alloc::Global;
 
@@ -21,7 +21,7 @@ pub const ORIGINAL_LIMIT: u64 = 1_048_576;
 pub const INPUTS_LIMIT: u64 = 4_194_304;
 
 /// A file of a sequence has at most this many bytes.
-pub const SEQUENCE_LIMIT: u64 = 8_388_608;
+pub const SEQUENCE_LIMIT: u64 = 16_777_216;
 
 /// A file of choices has at most this many bytes.
 pub const CHOICES_LIMIT: u64 = 16_777_216;
@@ -36,7 +36,7 @@ pub struct StartFiles {
     pub inputs: Option<Vec<u8>>,
 }
 
-/// The choices of a run, before any of their lines is read.
+/// The choices of a run, or of going on, before any of their lines is read.
 #[derive(Drop)]
 pub enum ChoiceBytes {
     /// An empty list of choices.
@@ -54,14 +54,14 @@ pub struct RunFiles {
     pub choices: ChoiceBytes,
 }
 
-/// The bytes of the files of a judgement.
+/// The bytes of the files of a judgement, or of variants.
 #[derive(Drop)]
 pub struct JudgeFiles {
     pub start: StartFiles,
     pub sequence: Vec<u8>,
 }
 
-/// The bytes of the files of a replaying.
+/// The bytes of the files of a replaying, or of a migration.
 #[derive(Drop)]
 pub struct ReplayFiles {
     pub text: Vec<u8>,
@@ -73,6 +73,13 @@ pub struct ReplayFiles {
 pub struct RequireFiles {
     pub sequenced: ReplayFiles,
     pub constraints: Vec<u8>,
+}
+
+/// The bytes of the files of going on from a sequence.
+#[derive(Drop)]
+pub struct ContinueFiles {
+    pub judged: JudgeFiles,
+    pub choices: ChoiceBytes,
 }
 
 /// Loads the files of a run: the program's, that of inputs if it is named, and that of choices if it is.
@@ -98,7 +105,7 @@ pub fn load_run<'w, F: TracedFiles>(
     }
 }
 
-/// Loads the files of a judgement: the program's, that of inputs if it is named, and the sequence's.
+/// Loads the files of a judgement, or of variants: the program's, that of inputs if it is named, and the sequence's.
 pub fn load_judge<'w, F: TracedFiles>(
     alloc: Global,
     asked: JudgeWords<'w>,
@@ -120,7 +127,30 @@ pub fn load_judge<'w, F: TracedFiles>(
     }
 }
 
-/// Loads the files of a replaying: the program's and the sequence's.
+/// Loads the files of going on from a sequence: those of a judgement, and that of choices if it is named.
+pub fn load_continue<'w, F: TracedFiles>(
+    alloc: Global,
+    asked: ContinueWords<'w>,
+    files: &mut F,
+) -> Result<ContinueFiles, Stop<'w>>
+    ensures came { HasLoads F.leads files.old files.new (CameOf continue_contents (F.told files.old) (F.faults files.old) (F.faults files.new) (continue_files asked.entry.judged.file.now (name_as asked.entry.judged.inputs) asked.entry.judged.sequence.now (source_as asked.entry.choices)) result) }
+    ensures named { IfOk result (λ found. is_some found.judged.start.inputs ≡ is_some asked.entry.judged.inputs) }
+    ensures chosen { IfOk result (λ found. IsGivenBy (source_as asked.entry.choices) (given_as found.choices)) }
+    ensures short { IfOk result IsShortContinue }
+    ensures told_stays { F.told files.new ≡ F.told files.old }
+    ensures count_never_falls { F.faults files.old ≤ F.faults files.new }
+{
+    let judged = match load_judge(alloc, asked.judged, files) {
+        Ok(judged) => judged,
+        Err(stop) => return Err(stop),
+    };
+    match load_choices(alloc, asked.choices, files) {
+        Ok(choices) => Ok(ContinueFiles { judged, choices }),
+        Err(stop) => Err(stop),
+    }
+}
+
+/// Loads the files of a replaying, or of a migration: the program's and the sequence's.
 pub fn load_replay<'w, F: TracedFiles>(
     alloc: Global,
     asked: ReplayWords<'w>,

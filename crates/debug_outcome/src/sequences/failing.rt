@@ -7,7 +7,7 @@ ghost use Rattle.debug_outcome.specs.sequences.BadSequences.{refusal_of_sequence
 use crate::{Listed, Refusal, SequenceFault, Stop};
 use seq_file::SeqError;
 
-/// Why a command stops where the reader of a sequence answers this error: the fault of the first bad line with that line, the limit of a file
+/// Why a command stops where a reader of sequences, in either format, answers this error: the fault of the first bad line with that line, the limit of a file
 /// with too many events, or want of memory.
 pub fn sequence_failure<'w>(error: SeqError) -> Stop<'w>
     ensures { result ≡ stop_by (refusal_of_sequence error) }

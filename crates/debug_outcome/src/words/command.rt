@@ -1,7 +1,7 @@
 // The words that the program is called with.
 
 ghost use Rattle.std.specs.Prelude.{◌≡◌, ◌≤◌, map, option_map, string_bytes, length};
-ghost use Rattle.debug_outcome.specs.words.Words.{asked_by, asks_of_one, asks_of_two, asks_of_three, asks_of_four, asks_run, asks_judge, inputs_of, choice_source, seed_of, number_of, digits_value, begins_well, is_zero};
+ghost use Rattle.debug_outcome.specs.words.Words.{asked_by, asks_of_one, asks_of_two, asks_of_three, asks_of_four, asks_of_six, asks_run, asks_judge, asks_variants, asks_continue, inputs_of, choice_source, seed_of, number_of, count_of, digits_value, begins_well, is_zero};
 ghost use Rattle.debug_outcome.specs.words.Commands.{asked_as, source_as, name_as};
 
 /// What the words ask for.
@@ -19,9 +19,15 @@ pub enum Command<'w> {
     Replay(ReplayWords<'w>),
     /// Which constraints a sequence of events breaks.
     Require(RequireWords<'w>),
+    /// A sequence of events in the other format.
+    Migrate(ReplayWords<'w>),
+    /// What else can come at each place of a sequence of events.
+    Variants(JudgeWords<'w>),
+    /// Going on from a sequence of events.
+    Continue(ContinueWords<'w>),
 }
 
-/// Where the choices of a run come from.
+/// Where the choices of a run, or of going on, come from.
 #[derive(Clone, Copy)]
 pub enum Choices<'w> {
     /// From nowhere: an empty list of choices.
@@ -41,7 +47,7 @@ pub struct RunWords<'w> {
     pub turns: u64,
 }
 
-/// The verdict on the sequence in a file for the program in another, where a task may make so many local steps, from 1 to
+/// The sequence in a file, as it is judged for the program in another, where a task may make so many local steps, from 1 to
 /// 100,000,000, between the events that change it. The tasks read what the file of inputs says, if one is named.
 #[derive(Clone, Copy)]
 pub struct JudgeWords<'w> {
@@ -51,7 +57,7 @@ pub struct JudgeWords<'w> {
     pub bound: u64,
 }
 
-/// The replay text of the program in a file and of the sequence in another.
+/// A program in a file, and a sequence of its events in another.
 #[derive(Clone, Copy)]
 pub struct ReplayWords<'w> {
     pub file: &'w str,
@@ -66,6 +72,14 @@ pub struct RequireWords<'w> {
     pub constraints: &'w str,
 }
 
+/// Going on from a sequence that is judged as these words say, by choices, and by at most so many events, from 1 to 100,000.
+#[derive(Clone, Copy)]
+pub struct ContinueWords<'w> {
+    pub judged: JudgeWords<'w>,
+    pub choices: Choices<'w>,
+    pub count: u32,
+}
+
 /// Why there are no words.
 #[derive(Clone, Copy)]
 pub enum NoWords {
@@ -76,9 +90,9 @@ pub enum NoWords {
 }
 
 /// What the words ask for; none where they are no usage. The usages are `print FILE`, `check FILE`, `replay FILE SEQUENCE`,
-/// `require FILE SEQUENCE CONSTRAINTS`, `run FILE IN CHOICES TURNS` and `judge FILE IN SEQUENCE STEPS`, where IN is a file's name, or `-` for no
-/// inputs, and CHOICES a file's name, `-` for none, or `seed:` and a number from 0 to 18,446,744,073,709,551,615 without leading zeros. It takes
-/// no memory.
+/// `migrate FILE SEQUENCE`, `require FILE SEQUENCE CONSTRAINTS`, `run FILE IN CHOICES TURNS`, `judge FILE IN SEQUENCE STEPS`,
+/// `variants FILE IN SEQUENCE STEPS` and `continue FILE IN SEQUENCE CHOICES COUNT STEPS`, where IN is a file's name, or `-` for no inputs, and
+/// CHOICES a file's name, `-` for none, or `seed:` and a number from 0 to 18,446,744,073,709,551,615 without leading zeros. It takes no memory.
 #[tactic(auto, using(crate::proofs::words::Usages::no_usage))]
 pub fn command_of<'w>(words: &'w [String]) -> Option<Command<'w>>
     ensures { option_map asked_as result ≡ asked_by (map string_bytes words.now) }
@@ -103,9 +117,21 @@ pub fn command_of<'w>(words: &'w [String]) -> Option<Command<'w>>
                 number.as_str(),
             )
         }
+        [command, file, inputs, sequence, choices, count, number] => {
+            of_six(
+                command.as_str(),
+                file.as_str(),
+                inputs.as_str(),
+                sequence.as_str(),
+                choices.as_str(),
+                count.as_str(),
+                number.as_str(),
+            )
+        }
         [] => None,
         [_] => None,
-        [_, _, _, _, _, _, ..] => None,
+        [_, _, _, _, _, _] => None,
+        [_, _, _, _, _, _, _, _, ..] => None,
     }
 }
 
@@ -128,6 +154,8 @@ fn of_two<'w>(command: &str, file: &'w str, sequence: &'w str) -> Option<Command
 {
     if command == "replay" {
         Some(Command::Replay(ReplayWords { file, sequence }))
+    } else if command == "migrate" {
+        Some(Command::Migrate(ReplayWords { file, sequence }))
     } else {
         None
     }
@@ -167,6 +195,27 @@ fn of_four<'w>(
         run_of(file, inputs, other, number)
     } else if command == "judge" {
         judge_of(file, inputs, other, number)
+    } else if command == "variants" {
+        variants_of(file, inputs, other, number)
+    } else {
+        None
+    }
+}
+
+// A command of six words.
+fn of_six<'w>(
+    command: &str,
+    file: &'w str,
+    inputs: &'w str,
+    sequence: &'w str,
+    choices: &'w str,
+    count: &str,
+    number: &str,
+) -> Option<Command<'w>>
+    ensures { option_map asked_as result ≡ asks_of_six command.now file.now inputs.now sequence.now choices.now count.now number.now }
+{
+    if command == "continue" {
+        continue_of(file, inputs, sequence, choices, count, number)
     } else {
         None
     }
@@ -207,6 +256,64 @@ fn judge_of<'w>(
             sequence,
             bound,
         })),
+        None => None,
+    }
+}
+
+// The variants of the sequence, where the last word is a number of local steps.
+fn variants_of<'w>(
+    file: &'w str,
+    inputs: &'w str,
+    sequence: &'w str,
+    word: &str,
+) -> Option<Command<'w>>
+    ensures { option_map asked_as result ≡ asks_variants file.now inputs.now sequence.now word.now }
+{
+    match number_of(word.as_bytes()) {
+        Some(bound) => Some(Command::Variants(JudgeWords {
+            file,
+            inputs: inputs_of(inputs),
+            sequence,
+            bound,
+        })),
+        None => None,
+    }
+}
+
+// Going on from the sequence, where the last words are choices, a number of events and a number of local steps.
+fn continue_of<'w>(
+    file: &'w str,
+    inputs: &'w str,
+    sequence: &'w str,
+    choices: &'w str,
+    count: &str,
+    word: &str,
+) -> Option<Command<'w>>
+    ensures { option_map asked_as result ≡ asks_continue file.now inputs.now sequence.now choices.now count.now word.now }
+{
+    let choices = match choices_of(choices) {
+        Some(choices) => choices,
+        None => return None,
+    };
+    let count = match count_of(count.as_bytes()) {
+        Some(count) => count,
+        None => return None,
+    };
+    match number_of(word.as_bytes()) {
+        Some(bound) => {
+            let inputs = inputs_of(inputs);
+            let judged = JudgeWords {
+                file,
+                inputs,
+                sequence,
+                bound,
+            };
+            Some(Command::Continue(ContinueWords {
+                judged,
+                choices,
+                count,
+            }))
+        }
         None => None,
     }
 }
@@ -279,6 +386,20 @@ fn number_of(word: &[u8]) -> Option<u64>
                     None
                 }
             }
+            None => None,
+        }
+    } else {
+        None
+    }
+}
+
+// The number from 1 to 100,000 that the word gives.
+fn count_of(word: &[u8]) -> Option<u32>
+    ensures { result ≡ count_of word.now }
+{
+    if begins_well(word) && word.len() <= 6 {
+        match value_of(word) {
+            Some(n) => { if n <= 100_000 { Some(n as u32) } else { None } }
             None => None,
         }
     } else {

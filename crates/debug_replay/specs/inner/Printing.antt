@@ -5,13 +5,12 @@ use Rattle.ada_tree.specs.TypeTable.{TypeTable}
 use Rattle.ada_printer.specs.ProgramText.{program_text}
 use Rattle.event_machine.specs.declared.Event.{Event}
 use Rattle.syn_event.specs.Numbering.{Numbering}
-use Rattle.seq_file.specs.Files.{SeqReads}
 use Rattle.replay_model.specs.ReplayTree.{replayed}
 use Rattle.debug_outcome.specs.files.Wanting.{text_limit}
 use Rattle.debug_outcome.specs.Outcomes.{Outcome, writes, refuses}
 use Rattle.debug_outcome.specs.declared.refusal.Refusal.TheVariants.{LongText, TooMany}
 use Rattle.debug_outcome.specs.declared.refusal.Listed.TheVariants.{Events}
-use Rattle.debug_outcome.specs.sequences.BadSequences.{IsBadSequence}
+use Rattle.debug_sequence.specs.Sequences.{ReadsAs, IsRefusedSequence}
 
 -- The text of a program in the layout, which has at most as many bytes as a program that is run; else that limit.
 abbrev pub printed_outcome : PProgram → Outcome
@@ -25,9 +24,9 @@ replay_outcome (Err limit) = refuses (TooMany Events limit)
 -- The lines are a sequence of the program with these types and numbers, and the outcome is that of its replay text.
 pub record IsReplayed (p : PProgram) (types : TypeTable) (numbers : Numbering) (lines : List ℕ) (o : Outcome) : Type 0 where
   pub events : List Event
-  pub reads : SeqReads lines numbers p.names events
+  pub reads : ReadsAs lines numbers p.names events
   pub is : o ≡ replay_outcome (replayed p types numbers events)
 
 -- The lines come to this outcome.
 abbrev pub ComeTo : PProgram → TypeTable → Numbering → List ℕ → Outcome → Type 0
-ComeTo p types numbers lines o = IsReplayed p types numbers lines o ⊎ IsBadSequence p.names numbers lines o
+ComeTo p types numbers lines o = IsReplayed p types numbers lines o ⊎ IsRefusedSequence p.names numbers lines o

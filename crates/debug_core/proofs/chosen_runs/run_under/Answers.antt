@@ -1,22 +1,19 @@
-use Rattle.std.proofs.Common.{List, ℕ, subst}
-use Rattle.debug_outcome.specs.Coming.{Comes}
-use Rattle.debug_core.specs.ChosenRuns.{IsListedRun, RunsByFile}
-use Rattle.debug_core.specs.inner.Started.{setup_of}
+use Rattle.std.proofs.Common.{inl, inr}
+use Rattle.debug_outcome.specs.files.Giving.{given_as}
+use Rattle.debug_outcome.proofs.Comings.{comes_more, stops_come, stops_more}
+use Rattle.debug_core.specs.ChoiceTexts.{AreBadChoices}
+use Rattle.debug_core.specs.ChosenRuns.{IsRunBy, RunsUnder}
+use Rattle.debug_core.specs.inner.Started.{choosing_of, setup_of}
 use Rattle.debug_core.proofs.chosen_runs.run_under.Goals as goal
 
-pub returns-in-Empty : goal.returns-in-Empty
-returns-in-Empty g c =
-    rw c.in-Empty.is
-    (subst
-    (λ (list : List ℕ). Comes (IsListedRun (setup_of c.args.start.now) c.args.start.now.legal.numbers list c.args.turns) (IsListedRun (setup_of c.args.start.now) c.args.start.now.legal.numbers list c.args.turns) (g.O.Sink.told c.args.out.now) (g.O.Sink.told c.run_list.new.out) (g.O.Sink.faults c.args.out.now) (g.O.Sink.faults c.run_list.new.out) c.run_list.result)
-    c.new.ensures.items c.run_list.ensures)
+pub returns-in-Ok : goal.returns-in-Ok
+returns-in-Ok g c =
+    comes_more (IsRunBy (setup_of c.args.start.now) c.args.start.now.legal.numbers c.args.turns (choosing_of c.in-Ok.choosing)) (RunsUnder (setup_of c.args.start.now) c.args.start.now.legal.numbers (given_as c.args.choices.now) c.args.turns) (IsRunBy (setup_of c.args.start.now) c.args.start.now.legal.numbers c.args.turns (choosing_of c.in-Ok.choosing)) (RunsUnder (setup_of c.args.start.now) c.args.start.now.legal.numbers (given_as c.args.choices.now) c.args.turns) (g.O.Sink.told c.args.out.now) (g.O.Sink.told c.run_chosen.new.out) (g.O.Sink.faults c.args.out.now) (g.O.Sink.faults c.run_chosen.new.out) c.run_chosen.result
+    (λ o is_run. inl (record { choosing = choosing_of c.in-Ok.choosing; are = c.in-Ok.ensures.choosing; called = is_run }))
+    (λ o is_run. inl (record { choosing = choosing_of c.in-Ok.choosing; are = c.in-Ok.ensures.choosing; called = is_run }))
+    c.run_chosen.ensures
 
-pub returns-in-In : goal.returns-in-In
-returns-in-In g c =
-    rw c.in-In.is
-    (subst
-    (λ (bytes : List ℕ). Comes (RunsByFile (setup_of c.args.start.now) c.args.start.now.legal.numbers bytes c.args.turns) (RunsByFile (setup_of c.args.start.now) c.args.start.now.legal.numbers bytes c.args.turns) (g.O.Sink.told c.args.out.now) (g.O.Sink.told c.run_read.new.out) (g.O.Sink.faults c.args.out.now) (g.O.Sink.faults c.run_read.new.out) c.run_read.result)
-    c.as_slice.ensures.value c.run_read.ensures)
-
-pub returns-in-Seeded : goal.returns-in-Seeded
-returns-in-Seeded g c = rw c.in-Seeded.is (rw c.new-in-Seeded.ensures at c.run_by.ensures)
+pub returns-in-Err : goal.returns-in-Err
+returns-in-Err g c =
+    stops_come (RunsUnder (setup_of c.args.start.now) c.args.start.now.legal.numbers (given_as c.args.choices.now) c.args.turns) (RunsUnder (setup_of c.args.start.now) c.args.start.now.legal.numbers (given_as c.args.choices.now) c.args.turns) (g.O.Sink.told c.args.out.now) (g.O.Sink.faults c.args.out.now) c.in-Err.stop
+    (stops_more (AreBadChoices (given_as c.args.choices.now)) (RunsUnder (setup_of c.args.start.now) c.args.start.now.legal.numbers (given_as c.args.choices.now) c.args.turns) c.in-Err.stop (λ o bad. inr bad) c.in-Err.ensures.cause)

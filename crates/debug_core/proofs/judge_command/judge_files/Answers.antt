@@ -5,7 +5,14 @@ use Rattle.debug_outcome.proofs.Comings.{comes_more}
 use Rattle.debug_judge.specs.JudgeOutcomes.{SequenceMeans}
 use Rattle.debug_core.specs.JudgeMeaning.{JudgeMeans}
 use Rattle.debug_core.specs.inner.Started.{setup_of}
+use Rattle.debug_core.proofs.Originals.{start_is_original, original_is_upper, original_has_lists}
 use Rattle.debug_core.proofs.judge_command.judge_files.Goals as goal
+
+pub report_lines-requires-clause-name : goal.report_lines-requires-clause-name
+report_lines-requires-clause-name g c = original_is_upper c.in-Ok.start (start_is_original _ _ c.in-Ok.start c.in-Ok.ensures.start)
+
+pub report_lines-requires-clause-tasks : goal.report_lines-requires-clause-tasks
+report_lines-requires-clause-tasks g c = original_has_lists c.in-Ok.start (start_is_original _ _ c.in-Ok.start c.in-Ok.ensures.start)
 
 pub returns-in-Ok : goal.returns-in-Ok
 returns-in-Ok g c =

@@ -1,14 +1,12 @@
 use Rattle.std.proofs.Common.{List, ℕ, inl, subst}
 use Rattle.ada_tree.specs.PlainProgram.{PProgram, plain_program}
-use Rattle.ada_parser.proofs.PlacedItems.{read_is_placed}
-use Rattle.seq_file.proofs.MainNames.{main_is_upper}
 use Rattle.syn_event.specs.declared.numbering.Mode.TheVariants.{Original}
 use Rattle.debug_outcome.specs.Coming.{Comes, Never}
 use Rattle.debug_outcome.proofs.Comings.{comes_more}
 use Rattle.debug_replay.specs.ReplayOutcomes.{ReplaysLines}
 use Rattle.debug_core.specs.LegalTexts.{IsLegalText}
 use Rattle.debug_core.specs.ReplayMeaning.{ReplayMeans}
-use Rattle.debug_core.proofs.Originals.{read_is_original}
+use Rattle.debug_core.proofs.Originals.{read_is_original, text_is_upper}
 use Rattle.debug_core.proofs.replay_command.replay_files.Goals as goal
 
 pub write_replay-requires-clause-legal : goal.write_replay-requires-clause-legal
@@ -24,10 +22,7 @@ write_replay-requires-clause-own g c =
     legal.legal
 
 pub write_replay-requires-clause-name : goal.write_replay-requires-clause-name
-write_replay-requires-clause-name g c =
-    let p : PProgram = plain_program c.in-Ok.legal.program in
-    let legal : IsLegalText _ Original p c.in-Ok.legal.types c.in-Ok.legal.numbers = c.in-Ok.ensures.program in
-    main_is_upper p c.in-Ok.legal.types c.in-Ok.legal.numbers Original (read_is_placed _ p legal.is_read.reads) legal.legal
+write_replay-requires-clause-name g c = text_is_upper _ (plain_program c.in-Ok.legal.program) c.in-Ok.legal.types c.in-Ok.legal.numbers c.in-Ok.ensures.program
 
 pub returns-in-Ok : goal.returns-in-Ok
 returns-in-Ok g c =

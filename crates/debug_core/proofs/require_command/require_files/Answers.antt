@@ -1,20 +1,19 @@
 use Rattle.std.proofs.Common.{List, ℕ, inl, subst}
 use Rattle.ada_tree.specs.PlainProgram.{PProgram, plain_program}
-use Rattle.ada_parser.proofs.PlacedItems.{read_is_placed}
-use Rattle.seq_file.proofs.MainNames.{main_is_upper}
 use Rattle.syn_event.specs.declared.numbering.Mode.TheVariants.{Original}
 use Rattle.debug_outcome.specs.Coming.{Comes, Never}
 use Rattle.debug_outcome.proofs.Comings.{comes_more}
 use Rattle.debug_sequence.specs.RequireOutcomes.{RequiresLines}
 use Rattle.debug_core.specs.LegalTexts.{IsLegalText}
 use Rattle.debug_core.specs.RequireMeaning.{RequireMeans}
+use Rattle.debug_core.proofs.Originals.{text_is_upper, text_has_lists}
 use Rattle.debug_core.proofs.require_command.require_files.Goals as goal
 
 pub report_breaks-requires-clause-name : goal.report_breaks-requires-clause-name
-report_breaks-requires-clause-name g c =
-    let p : PProgram = plain_program c.in-Ok.legal.program in
-    let legal : IsLegalText _ Original p c.in-Ok.legal.types c.in-Ok.legal.numbers = c.in-Ok.ensures.program in
-    main_is_upper p c.in-Ok.legal.types c.in-Ok.legal.numbers Original (read_is_placed _ p legal.is_read.reads) legal.legal
+report_breaks-requires-clause-name g c = text_is_upper _ (plain_program c.in-Ok.legal.program) c.in-Ok.legal.types c.in-Ok.legal.numbers c.in-Ok.ensures.program
+
+pub report_breaks-requires-clause-tasks : goal.report_breaks-requires-clause-tasks
+report_breaks-requires-clause-tasks g c = text_has_lists _ (plain_program c.in-Ok.legal.program) c.in-Ok.legal.types c.in-Ok.legal.numbers c.in-Ok.ensures.program
 
 pub returns-in-Ok : goal.returns-in-Ok
 returns-in-Ok g c =

@@ -14,3 +14,12 @@ returns-in-Replay g c = rw c.in-Replay.is c.replay_command.ensures
 
 pub returns-in-Require : goal.returns-in-Require
 returns-in-Require g c = rw c.in-Require.is c.require_command.ensures
+
+pub returns-in-Migrate : goal.returns-in-Migrate
+returns-in-Migrate g c = rw c.in-Migrate.is c.migrate_command.ensures
+
+pub returns-in-Variants : goal.returns-in-Variants
+returns-in-Variants g c = rw c.in-Variants.is c.variants_command.ensures
+
+pub returns-in-Continue : goal.returns-in-Continue
+returns-in-Continue g c = rw c.in-Continue.is c.continue_command.ensures

@@ -9,24 +9,23 @@ use Rattle.debug_outcome.specs.Coming.{Comes, Never, stop_by}
 use Rattle.debug_outcome.specs.Outcomes.{Outcome}
 use Rattle.debug_outcome.specs.declared.stopping.Stop.{Stop}
 use Rattle.debug_outcome.proofs.Comings.{comes_more, stops_come, stops_more}
-use Rattle.debug_outcome.specs.sequences.BadSequences.{IsBadSequence, refusal_of_sequence}
-use Rattle.debug_outcome.proofs.sequences.Telling.{stops_unread}
+use Rattle.debug_sequence.specs.Sequences.{IsRefusedSequence}
 use Rattle.debug_replay.specs.inner.Printing.{printed_outcome, ComeTo}
 use Rattle.debug_replay.specs.ReplayOutcomes.{ReplaysLines, refusal_of_replay}
 use Rattle.debug_replay.proofs.Keeping.{called}
+use Rattle.debug_replay.proofs.OwnTasks.{lists_for_all}
 use Rattle.debug_replay.proofs.TextOutcomes.{one_error, stops_replay, text_called}
 use Rattle.debug_replay.proofs.replaying.write_replay.Goals as goal
+
+pub read_sequence-requires-clause-tasks : goal.read_sequence-requires-clause-tasks
+read_sequence-requires-clause-tasks g c = lists_for_all (plain_program c.args.program.now) c.args.types.now c.args.numbers.now c.requires.legal.placed c.requires.own
 
 pub returns-in-Err : goal.returns-in-Err
 returns-in-Err g c =
     let p : PProgram = plain_program c.args.program.now in
     let A : Outcome → Type 0 = ReplaysLines p c.args.types.now c.args.numbers.now c.args.lines.now in
-    subst
-    (λ (stop : Stop). Comes A Never (g.K.Sink.told c.args.out.now) (g.K.Sink.told c.args.out.now) (g.K.Sink.faults c.args.out.now) (g.K.Sink.faults c.args.out.now) (Err stop))
-    (sym c.sequence_failure.ensures)
-    (stops_come A Never (g.K.Sink.told c.args.out.now) (g.K.Sink.faults c.args.out.now) (stop_by (refusal_of_sequence c.in-Err.error))
-    (stops_more (IsBadSequence p.names c.args.numbers.now c.args.lines.now) A (stop_by (refusal_of_sequence c.in-Err.error)) (λ o bad. inr (inr bad))
-    (stops_unread p.names c.args.numbers.now c.args.lines.now c.in-Err.error c.in-Err.ensures.first_fault)))
+    stops_come A Never (g.K.Sink.told c.args.out.now) (g.K.Sink.faults c.args.out.now) c.in-Err.stop
+    (stops_more (IsRefusedSequence p.names c.args.numbers.now c.args.lines.now) A c.in-Err.stop (λ o bad. inr (inr bad)) c.in-Err.ensures.refused)
 
 pub returns-in-Ok-replay : goal.returns-in-Ok-replay
 returns-in-Ok-replay g c =
