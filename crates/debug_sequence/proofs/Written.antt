@@ -13,8 +13,8 @@ use Rattle.debug_sequence.proofs.Sequences.{as_lists}
 
 -- lists that are not found to be too many are not
 pub not_more : (many : Bool) (tested lists : List (List Event)) → tested ≡ lists → IsTrue many ↔ (most_listed < listed tested) → many ≡ false → listed lists ≤ most_listed
-not_more many tested lists same says no = elim (cases_lt most_listed (listed lists)) [
-  | inl more ↦ absurd (true≢false (sym (says.1 (subst (λ (ls : List (List Event)). most_listed < listed ls) (sym same) more)) ∙ no))
+not_more many tested lists same says false_is = elim (cases_lt most_listed (listed lists)) [
+  | inl more ↦ absurd (true≢false (sym (says.1 (subst (λ (ls : List (List Event)). most_listed < listed ls) (sym same) more)) ∙ false_is))
   | inr few ↦ few
 ]
 
