@@ -1,6 +1,6 @@
 use Rattle.std.proofs.Common.{◌≡◌, refl}
 use Rattle.seq_file.specs.Files.{SeqText}
-use Rattle.debug_outcome.specs.Outcomes.{Outcome, writes}
+use Rattle.debug_outcome.specs.Outcomes.{writes}
 use Rattle.debug_outcome.proofs.Comings.{has_put, has_broken}
 use Rattle.debug_sequence.proofs.migrating.put_joined.Goals as goal
 

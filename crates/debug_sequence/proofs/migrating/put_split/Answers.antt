@@ -1,8 +1,5 @@
-use Rattle.std.proofs.Common.{◌≤◌, List, map, ap, ◌∙◌, subst}
-use Rattle.ded_io.specs.declared.writing.SinkError.{SinkError}
-use Rattle.event_machine.specs.declared.Event.{Event}
+use Rattle.std.proofs.Common.{◌≤◌, map, ap, ◌∙◌}
 use Rattle.seq_file.specs.Lists.{ListText, listed, most_listed}
-use Rattle.debug_outcome.specs.Outcomes.{writes}
 use Rattle.debug_outcome.proofs.Comings.{has_put, has_broken}
 use Rattle.debug_sequence.specs.MigrateOutcomes.{AreSplit}
 use Rattle.debug_sequence.proofs.Fitting.{lists_many}
