@@ -82,7 +82,8 @@ pub enum Rule {
     OfCheck(CheckRule),
 }
 
-/// What is wrong with the first bad line of a sequence. `BadOrder` is that of an event that can't follow those before it, by the events alone.
+/// What is wrong with a line of a sequence: with the first bad one, or, `BadOrder`, with the first whose event can't follow those before it, as
+/// events alone tell.
 #[derive(Clone, Copy)]
 pub enum SequenceFault {
     BadLine,

@@ -1,4 +1,4 @@
--- What the files of a command give: their bytes in order, and the choices of a run (this project's rules).
+-- What the files of a command give: their bytes in order, and the choices (this project's rules).
 use Rattle.std.specs.Prelude.{◌≡◌, ◌<◌, ◌≤◌, ◌-◌, ◌^◌, ℕ, List, [], ◌∷◌, ◌++◌, length, Option, option_map, option_to_list, IfSome, ⊤}
 use Rattle.debug_outcome.specs.words.Words.{ChoiceSource, NoChoices, ChoicesIn, ChoicesBy}
 use Rattle.debug_outcome.specs.declared.files.loading.ChoiceBytes.{ChoiceBytes}
@@ -11,7 +11,7 @@ use Rattle.debug_outcome.specs.declared.files.loading.RequireFiles.{RequireFiles
 use Rattle.debug_outcome.specs.declared.files.loading.ContinueFiles.{ContinueFiles}
 use Rattle.debug_outcome.specs.files.Wanting.{original_bytes}
 
--- The choices of a run, before any of their lines is read.
+-- The choices of a run, or of going on, before any of their lines is read.
 pub data Given : Type 0 where
   -- an empty list of choices
   NothingGiven : Given

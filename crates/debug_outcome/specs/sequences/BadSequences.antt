@@ -1,4 +1,4 @@
--- As what a file that is no sequence of a program, or has no lists of events by its tasks, is told: the refusal for the fault of its first bad line (this project's rules).
+-- As what a file is told that is no sequence of a program, in one list or by tasks: the refusal for the fault of its first bad line (this project's rules).
 use Rattle.std.specs.Prelude.{ℕ, List, Option, Some, None}
 use Rattle.syn_event.specs.Numbering.{Numbering}
 use Rattle.seq_file.specs.declared.errors.SeqError.{SeqError}

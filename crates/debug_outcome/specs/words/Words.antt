@@ -2,7 +2,7 @@
 use Rattle.std.specs.Prelude.{ℕ, ◌+◌, ◌-◌, ◌*◌, Bool, false, not, ◌&&◌, ◌||◌, nat_le, List, [], ◌∷◌, length, drop, nat_eq, Option, Some, None, option_map, option_and_then, if◌then◌else◌, codes, bytes_eq}
 use Rattle.std.specs.List.{starts_with}
 
--- Where the choices of a run come from.
+-- Where the choices of a run, or of going on, come from.
 pub data ChoiceSource : Type 0 where
   -- nowhere: an empty list of choices
   NoChoices : ChoiceSource
@@ -27,7 +27,7 @@ pub data Asked : Type 0 where
   AsksRequire : List ℕ → List ℕ → List ℕ → Asked
   -- the sequence in the second file in the other format, for the program in the first
   AsksMigrate : List ℕ → List ℕ → Asked
-  -- what else can come at each place of the sequence in the last file, for the program in the first, with inputs and a number of local steps as for judging
+  -- what else can come at each place of the sequence in the last file, for the program in the first, with inputs and a number of local steps as of judging
   AsksVariants : List ℕ → Option (List ℕ) → List ℕ → ℕ → Asked
   -- going on from the sequence in the second file, for the program in the first, with inputs, choices, a greatest number of events and a number of local steps
   AsksContinue : List ℕ → Option (List ℕ) → List ℕ → ChoiceSource → ℕ → ℕ → Asked
@@ -95,7 +95,7 @@ asks_judge file inputs sequence number = option_map (AsksJudge file (inputs_of i
 abbrev pub asks_variants : List ℕ → List ℕ → List ℕ → List ℕ → Option Asked
 asks_variants file inputs sequence number = option_map (AsksVariants file (inputs_of inputs) sequence) (number_of number)
 
--- going on from a sequence, where the words behind the file are inputs, the name of a file of a sequence, choices, a number of events and a number of local steps
+-- going on from a sequence: behind the file stand inputs, the name of a file of a sequence, choices, a number of events and a number of local steps
 abbrev pub asks_continue : List ℕ → List ℕ → List ℕ → List ℕ → List ℕ → List ℕ → Option Asked
 asks_continue file inputs sequence choices count number =
     option_and_then

@@ -36,7 +36,7 @@ pub struct StartFiles {
     pub inputs: Option<Vec<u8>>,
 }
 
-/// The choices of a run, before any of their lines is read.
+/// The choices of a run, or of going on, before any of their lines is read.
 #[derive(Drop)]
 pub enum ChoiceBytes {
     /// An empty list of choices.
@@ -54,14 +54,14 @@ pub struct RunFiles {
     pub choices: ChoiceBytes,
 }
 
-/// The bytes of the files of a judgement.
+/// The bytes of the files of a judgement, or of variants.
 #[derive(Drop)]
 pub struct JudgeFiles {
     pub start: StartFiles,
     pub sequence: Vec<u8>,
 }
 
-/// The bytes of the files of a replaying.
+/// The bytes of the files of a replaying, or of a migration.
 #[derive(Drop)]
 pub struct ReplayFiles {
     pub text: Vec<u8>,
@@ -105,7 +105,7 @@ pub fn load_run<'w, F: TracedFiles>(
     }
 }
 
-/// Loads the files of a judgement: the program's, that of inputs if it is named, and the sequence's.
+/// Loads the files of a judgement, or of variants: the program's, that of inputs if it is named, and the sequence's.
 pub fn load_judge<'w, F: TracedFiles>(
     alloc: Global,
     asked: JudgeWords<'w>,
@@ -150,7 +150,7 @@ pub fn load_continue<'w, F: TracedFiles>(
     }
 }
 
-/// Loads the files of a replaying: the program's and the sequence's.
+/// Loads the files of a replaying, or of a migration: the program's and the sequence's.
 pub fn load_replay<'w, F: TracedFiles>(
     alloc: Global,
     asked: ReplayWords<'w>,

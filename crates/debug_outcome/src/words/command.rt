@@ -27,7 +27,7 @@ pub enum Command<'w> {
     Continue(ContinueWords<'w>),
 }
 
-/// Where the choices of a run come from.
+/// Where the choices of a run, or of going on, come from.
 #[derive(Clone, Copy)]
 pub enum Choices<'w> {
     /// From nowhere: an empty list of choices.
@@ -47,7 +47,7 @@ pub struct RunWords<'w> {
     pub turns: u64,
 }
 
-/// The verdict on the sequence in a file for the program in another, where a task may make so many local steps, from 1 to
+/// The sequence in a file, as it is judged for the program in another, where a task may make so many local steps, from 1 to
 /// 100,000,000, between the events that change it. The tasks read what the file of inputs says, if one is named.
 #[derive(Clone, Copy)]
 pub struct JudgeWords<'w> {
@@ -130,7 +130,8 @@ pub fn command_of<'w>(words: &'w [String]) -> Option<Command<'w>>
         }
         [] => None,
         [_] => None,
-        [_, _, _, _, _, _, ..] => None,
+        [_, _, _, _, _, _] => None,
+        [_, _, _, _, _, _, _, _, ..] => None,
     }
 }
 
