@@ -4,29 +4,24 @@ use Rattle.ded_io.specs.Written.{each_text}
 use Rattle.event_machine.specs.declared.Event.{Event}
 use Rattle.syn_event.specs.Numbering.{Numbering}
 use Rattle.text_lines.specs.LineFiles.{HasFirstFault}
-use Rattle.seq_file.specs.Files.{SeqReads, HasFirstFault as IsBadFor}
-use Rattle.seq_file.specs.declared.errors.SeqError.{SeqError}
-use Rattle.seq_file.specs.declared.errors.SeqError.TheVariants as unread
 use Rattle.syn_constraint.specs.declared.constraints.Constraint.{Constraint}
 use Rattle.syn_constraint.specs.declared.errors.ConError.{ConError}
 use Rattle.syn_constraint.specs.declared.errors.ConError.TheVariants as error
 use Rattle.syn_constraint.specs.Files.{constraint_format, ConstraintsRead}
 use Rattle.debug_outcome.specs.Coming.{Stops, stop_by}
 use Rattle.debug_outcome.specs.Outcomes.{Outcome, writes}
-use Rattle.debug_outcome.specs.sequences.BadSequences.{IsBadSequence, refusal_of_sequence}
+use Rattle.debug_outcome.specs.declared.stopping.Stop.{Stop}
 use Rattle.debug_outcome.proofs.Comings.{stops_by, stops_more}
-use Rattle.debug_outcome.proofs.sequences.Telling.{stops_unread}
 use Rattle.debug_sequence.specs.declared.requiring.Finding.{Finding}
+use Rattle.debug_sequence.specs.Sequences.{ReadsAs, IsRefusedSequence}
 use Rattle.debug_sequence.specs.RequireOutcomes.{AreFindings, RequiresLines, finding_line, findings_status, refusal_of_constraints}
 
 module _ (names : List (List ℕ)) (numbers : Numbering) (lines bytes : List ℕ) where
-  -- the lines are no sequence, or there was no memory for it
-  pub bad_sequence : (found : SeqError) → (found ≢ unread.Memory → IsBadFor lines numbers names found) → Stops (RequiresLines names numbers lines bytes) (stop_by (refusal_of_sequence found))
-  bad_sequence found h =
-      stops_more (IsBadSequence names numbers lines) (RequiresLines names numbers lines bytes) (stop_by (refusal_of_sequence found)) (λ o bad. inr bad)
-      (stops_unread names numbers lines found h)
+  -- the lines stand for no sequence, or there was no memory for it
+  pub refused_sequence : (stop : Stop) → Stops (IsRefusedSequence names numbers lines) stop → Stops (RequiresLines names numbers lines bytes) stop
+  refused_sequence stop h = stops_more (IsRefusedSequence names numbers lines) (RequiresLines names numbers lines bytes) stop (λ o refused. inr refused) h
 
-  module _ (events : List Event) (reads : SeqReads lines numbers names events) where
+  module _ (events : List Event) (reads : ReadsAs lines numbers names events) where
     bad_fault : (found : ConError) → HasFirstFault (constraint_format numbers) bytes found → Stops (RequiresLines names numbers lines bytes) (stop_by (refusal_of_constraints found))
     bad_fault found h =
         stops_by (RequiresLines names numbers lines bytes) (refusal_of_constraints found)

@@ -1,5 +1,5 @@
 -- The lines of a sequence and the bytes of constraints call for one outcome.
-use Rattle.std.proofs.Common.{◌≡◌, ◌+◌, true, ℕ, List, [], ◌∷◌, Option, Some, None, inl, inr, refl, sym, ap, subst, ◌∙◌, arith}
+use Rattle.std.proofs.Common.{◌≡◌, ◌+◌, true, ℕ, List, [], ◌∷◌, length, Option, Some, None, inl, inr, refl, sym, ap, subst, ◌∙◌, arith}
 use Rattle.std.specs.Prelude.{unwrap_or}
 use Rattle.std.proofs.lemmas.Bool.{cases_lt}
 use Rattle.ded_io.specs.Written.{each_text}
@@ -8,7 +8,7 @@ use Rattle.syn_event.specs.Numbering.{Numbering}
 use Rattle.syn_event.specs.DeclaredTasks.{text_of}
 use Rattle.seq_file.specs.Lines.{is_upper_name}
 use Rattle.seq_file.specs.Short.{IsShort}
-use Rattle.seq_file.proofs.Filing.{reads-unique}
+use Rattle.seq_file.specs.Lists.{list_count}
 use Rattle.syn_constraint.specs.declared.constraints.Constraint.{Constraint}
 use Rattle.syn_constraint.specs.declared.errors.ConError.{ConError}
 use Rattle.syn_constraint.specs.Breaking.{event_at, IsFirstBreak}
@@ -16,11 +16,11 @@ use Rattle.syn_constraint.proofs.Formatted.{constraints-unique, constraints-no_f
 use Rattle.debug_outcome.specs.Coming.{IsRefusal}
 use Rattle.debug_outcome.specs.Outcomes.{Outcome, writes}
 use Rattle.debug_outcome.proofs.Comings.{one_refusal}
-use Rattle.debug_outcome.proofs.sequences.Telling.{one_bad_sequence, read_or_bad}
 use Rattle.debug_sequence.specs.declared.requiring.Broken.{Broken}
 use Rattle.debug_sequence.specs.declared.requiring.Finding.{Finding}
 use Rattle.debug_sequence.specs.inner.Placing.{broken_with}
 use Rattle.debug_sequence.specs.RequireOutcomes.{IsFirstBroken, IsFinding, AreFindings, finding_line, findings_status, AreTold, AreBadConstraints, RequiresBytes, RequiresLines, refusal_of_constraints}
+use Rattle.debug_sequence.proofs.Sequences.{reads_as_unique, read_or_refused, one_refused}
 
 -- ---- what is found of a constraint is one thing
 
@@ -68,7 +68,8 @@ module _ (events : List Event) where
 
 -- ---- the bytes of constraints, and both files
 
-module _ (names : List (List ℕ)) (numbers : Numbering) (short : IsShort numbers) (upper : is_upper_name (text_of names numbers.main) ≡ true) (lines bytes : List ℕ) where
+module _ (names : List (List ℕ)) (numbers : Numbering) (short : IsShort numbers) (upper : is_upper_name (text_of names numbers.main) ≡ true) (tasks : length numbers.tasks ≡ list_count numbers)
+    (lines bytes : List ℕ) where
   one_bad : (o q : Outcome) → AreBadConstraints numbers bytes o → AreBadConstraints numbers bytes q → o ≡ q
   one_bad o q h k =
       let same : h.error ≡ k.error = constraints-one_fault numbers short bytes h.error k.error h.fault k.fault in
@@ -84,8 +85,8 @@ module _ (names : List (List ℕ)) (numbers : Numbering) (short : IsShort number
 
   pub one_require : (o q : Outcome) → RequiresLines names numbers lines bytes o → RequiresLines names numbers lines bytes q → o ≡ q
   one_require o q (inl h) (inl k) =
-      let same : h.events ≡ k.events = reads-unique names numbers short lines h.events k.events h.reads k.reads in
+      let same : h.events ≡ k.events = reads_as_unique names numbers short upper tasks lines h.events k.events h.reads k.reads in
       one_by_bytes k.events o q (subst (λ (es : List Event). RequiresBytes numbers es bytes o) same h.required) k.required
-  one_require o q (inl h) (inr k) = absurd (read_or_bad names numbers short upper lines h.events q h.reads k)
-  one_require o q (inr h) (inl k) = absurd (read_or_bad names numbers short upper lines k.events o k.reads h)
-  one_require o q (inr h) (inr k) = one_bad_sequence names numbers short upper lines o q h k
+  one_require o q (inl h) (inr k) = absurd (read_or_refused names numbers short upper tasks lines h.events q h.reads k)
+  one_require o q (inr h) (inl k) = absurd (read_or_refused names numbers short upper tasks lines k.events o k.reads h)
+  one_require o q (inr h) (inr k) = one_refused names numbers short upper tasks lines o q h k

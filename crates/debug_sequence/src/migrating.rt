@@ -43,7 +43,10 @@ pub fn migrate<'w, K: Sink>(
     requires tasks { length numbers.now.tasks ≡ list_count numbers.now }
     ensures { Comes (Migrates names.now numbers.now bytes.now) Never (K.told out.old) (K.told out.new) (K.faults out.old) (K.faults out.new) result }
 {
-    let events = read_sequence(alloc, bytes, numbers, names)?;
+    let events = match read_sequence(alloc, bytes, numbers, names) {
+        Ok(events) => events,
+        Err(stop) => return Err(stop),
+    };
     if is_in_lists(bytes) {
         put_joined(&events, names, numbers, out)
     } else {

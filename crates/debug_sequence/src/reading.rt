@@ -2,7 +2,7 @@
 
 ghost use Rattle.std.specs.Prelude.{◌≡◌, ◌≤◌, ◌<◌, ◌-◌, ◌^◌, length, true, IfOk, IfErr};
 ghost use Rattle.syn_event.specs.DeclaredTasks.{text_of};
-ghost use Rattle.seq_file.specs.Files.{most_events, SeqReads};
+ghost use Rattle.seq_file.specs.Files.{most_events, AreFit, SeqReads};
 ghost use Rattle.seq_file.specs.Lines.{is_upper_name};
 ghost use Rattle.seq_file.specs.Lists.{list_count};
 ghost use Rattle.debug_outcome.specs.Coming.{Stops, stop_by};
@@ -26,7 +26,7 @@ const MOST_EVENTS: usize = 200000;
 /// `names` are those of the program whose numbers these are, so that main's name is an identifier in upper case; its tasks are all the original's.
 /// `Ok` comes exactly where the bytes are a file of some events, in the format that they begin with. Otherwise the stop is the refusal of the file's
 /// first fault; of lists that have no order, which tells the first task whose list is not used up; or of too many events. Want of memory alone
-/// may stand for either answer.
+/// may stand for either answer. The events may stand in a file of one list (`fit`).
 pub fn read_sequence<'w>(
     alloc: Global,
     bytes: &[u8],
@@ -37,6 +37,7 @@ pub fn read_sequence<'w>(
     requires name { is_upper_name (text_of names.now numbers.now.main) ≡ true }
     requires tasks { length numbers.now.tasks ≡ list_count numbers.now }
     ensures reads { IfOk result (λ events. ReadsAs bytes.now numbers.now names.now events.items) }
+    ensures fit { IfOk result (λ events. AreFit numbers.now events.items) }
     ensures refused { IfErr result (Stops (IsRefusedSequence names.now numbers.now bytes.now)) }
 {
     if is_in_lists(bytes) {
@@ -56,6 +57,7 @@ fn read_events<'w>(
     requires length { length bytes.now < 2 ^ 32 - 1 }
     requires name { is_upper_name (text_of names.now numbers.now.main) ≡ true }
     ensures reads { IfOk result (λ events. SeqReads bytes.now numbers.now names.now events.items) }
+    ensures fit { IfOk result (λ events. AreFit numbers.now events.items) }
     ensures refused { IfErr result (Stops (IsBadSequence names.now numbers.now bytes.now)) }
 {
     match read_seq(alloc, bytes, numbers, names) {
@@ -75,6 +77,7 @@ fn read_joined<'w>(
     requires name { is_upper_name (text_of names.now numbers.now.main) ≡ true }
     requires tasks { length numbers.now.tasks ≡ list_count numbers.now }
     ensures reads { IfOk result (λ events. ReadsAsLists bytes.now numbers.now names.now events.items) }
+    ensures fit { IfOk result (λ events. AreFit numbers.now events.items) }
     ensures refused { IfErr result (Stops (AreRefusedLists names.now numbers.now bytes.now)) }
 {
     match read_lists(alloc, bytes, numbers, names) {

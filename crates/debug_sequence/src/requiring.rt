@@ -6,17 +6,17 @@ ghost use Rattle.ded_io.specs.Counts.{HasCause};
 ghost use Rattle.ded_io.specs.Written.{Wrote, each_text};
 ghost use Rattle.syn_event.specs.DeclaredTasks.{text_of};
 ghost use Rattle.seq_file.specs.Lines.{is_upper_name};
+ghost use Rattle.seq_file.specs.Lists.{list_count};
 ghost use Rattle.debug_outcome.specs.Coming.{Comes, Never, stop_by};
 ghost use Rattle.debug_outcome.specs.Outcomes.{writes};
 ghost use Rattle.debug_sequence.specs.RequireOutcomes.{RequiresLines, AreFindings, IsFirstBroken, is_broken, finding_line, broken_line, whole_line, findings_status, refusal_of_constraints};
 ghost use Rattle.debug_sequence.specs.inner.Placing.{broken_at};
 
+use crate::reading::read_sequence;
 use ada_tree::{Memory, Names};
-use debug_outcome::sequences::sequence_failure;
 use debug_outcome::{ConstraintFault, Listed, Refusal, Stop};
 use ded_io::decimals::put_number;
 use ded_io::{Sink, SinkError};
-use seq_file::read_seq;
 use std::alloc::Global;
 use syn_constraint::{ConError, Constraint, first_break, read_constraints};
 use syn_event::{Event, Numbers, show};
@@ -43,9 +43,10 @@ pub struct Finding {
 /// Writes a line for each of the constraints, in order, that says whether the sequence breaks it and where first, and answers 14 where one is
 /// broken, else 0.
 ///
-/// `lines` are the bytes of the sequence, and `constraints` those of the constraints, both for the program of these names and numbers. Bytes that
-/// are no sequence of it are refused with the fault of their first bad line; else so are bytes that are no constraints. Each constraint takes
-/// time in step with the events. What is found of all is kept until the first line is written, so that want of memory comes before it.
+/// `lines` are the bytes of the sequence, in either format, and `constraints` those of the constraints, both for the program of these names and
+/// numbers, whose tasks are all the original's. Bytes that stand for no sequence of it are refused as the reader of sequences refuses them; else bytes
+/// that are no constraints are, with the fault of their first bad line. Each constraint takes time in step with the events. What is found of all is
+/// kept until the first line is written, so that want of memory comes before it.
 pub fn report_breaks<'w, K: Sink>(
     alloc: Global,
     names: &Names,
@@ -57,11 +58,12 @@ pub fn report_breaks<'w, K: Sink>(
     requires lines { length lines.now < 2 ^ 32 - 1 }
     requires constraints { length constraints.now < 2 ^ 32 - 1 }
     requires name { is_upper_name (text_of names.now numbers.now.main) ≡ true }
+    requires tasks { length numbers.now.tasks ≡ list_count numbers.now }
     ensures { Comes (RequiresLines names.now numbers.now lines.now constraints.now) Never (K.told out.old) (K.told out.new) (K.faults out.old) (K.faults out.new) result }
 {
-    let events = match read_seq(alloc, lines, numbers, names) {
+    let events = match read_sequence(alloc, lines, numbers, names) {
         Ok(events) => events,
-        Err(error) => return Err(sequence_failure(error)),
+        Err(stop) => return Err(stop),
     };
     let constraints = match read_constraints(alloc, constraints, numbers) {
         Ok(constraints) => constraints,
