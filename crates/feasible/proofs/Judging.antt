@@ -14,6 +14,7 @@ use Rattle.event_machine.specs.Worlds.{World, Happen, still, acted, happens, is_
 use Rattle.event_machine.specs.Lawful.{Keeps}
 use Rattle.event_machine.proofs.Basics.{both}
 use Rattle.event_machine.proofs.Bases.{IsBase, base_leads}
+use Rattle.event_machine.proofs.Effected.{unchanged}
 use Rattle.event_machine.proofs.Extending.{before_end-same}
 use Rattle.event_machine.proofs.Following.{leads_once, follow_event}
 use Rattle.event_machine.proofs.Joining.{view_acted, length_acted}
@@ -184,13 +185,28 @@ module _ (setup : ProgramWithInputs) (numbers : Numbering) (bound : ℕ) where
     happens_here e h =
         sym (table_happens numbers (length (opening_of setup numbers).state.seats) (the_count setup numbers) e (view_at tasks) kept (seen e)) ∙ none_failing (view_at tasks) (asked_of.conditions_of numbers e) h
 
+    -- what the event makes of the kept tasks
+    acted_kept : (e : Event) (tasks' : Tasks) → happens m kept e ≡ true → tasks' ≡ acted (rules_of numbers) tasks e → (λ t. seat_of tasks' t) ≡ acted (numbered m) kept e
+    acted_kept e tasks' h acts = (λ i t. seat_of (acts i) t) ∙
+        view_acted m e tasks (subst (λ (g : ℕ → Seat Task). happens m g e ≡ true) (λ i t. record { local = (kept t).local; standing = sym (stills t) i }) h)
+
+    -- A task that the event does not change is as before.
+    pub unchanged_kept : (e : Event) (tasks' : Tasks) → happens m kept e ≡ true → tasks' ≡ acted (rules_of numbers) tasks e → (t : ℕ) → changes task_ops (owner_of numbers) kept e t ≡ false →
+        seat_of tasks' t ≡ seat_of tasks t
+    unchanged_kept e tasks' h acts t same = ap (λ (g : ℕ → Seat Task). g t) (acted_kept e tasks' h acts) ∙ unchanged m e kept t same
+
+    -- A live task has the callers of its base.
+    pub callers_kept : (t : ℕ) → (kept t).standing ≡ Live → task_ops.callers (kept t).local ≡ task_ops.callers (k.bases.tasks t).local
+    callers_kept t free = ap task_ops.callers (k.follows.each t).local ∙
+        (ran_keeps (k.follows.each t).steps (k.bases.tasks t).local (base.sound.proper t (ap is_closed (sym (k.follows.each t).standing ∙ free))) (k.follows.each t).has_steps).1
+
     pub keeps_event : (e : Event) (tasks' : Tasks) (steps' : List ℕ) → happens m kept e ≡ true → tasks' ≡ acted (rules_of numbers) tasks e → AreRecounted numbers tasks e steps steps' →
         AreKept setup numbers bound (events ++ e ∷ []) tasks' steps' (is_last e || ended)
     keeps_event e tasks' steps' h acts counted = record {
       bases = followed.0;
       leads = leads_append m events (e ∷ []) (first_world setup numbers) k.bases followed.0 k.leads (followed.0, followed.1, refl);
       follows = subst (λ (c : ℕ → ℕ). Follows m followed.0 (world_kept tasks' (is_last e || ended)) c) (λ i t. sym (counted.each t) i)
-          (subst (λ (g : ℕ → Seat Task). Follows m followed.0 (record { tasks = g; ended = is_last e || ended }) (recount m (world_kept tasks ended) (Happen e) (λ t. slice_index steps t))) (sym same_tasks) followed.2);
+          (subst (λ (g : ℕ → Seat Task). Follows m followed.0 (record { tasks = g; ended = is_last e || ended }) (recount m (world_kept tasks ended) (Happen e) (λ t. slice_index steps t))) (sym (acted_kept e tasks' h acts)) followed.2);
       size = ap length acts ∙ length_acted m e tasks ∙ k.size;
       counts = counted.size ∙ k.counts;
       within = λ t. subst (λ n. n ≤ bound) (sym (counted.each t)) (few (changes task_ops (owner_of numbers) kept e t) t);
@@ -198,10 +214,6 @@ module _ (setup : ProgramWithInputs) (numbers : Numbering) (bound : ℕ) where
       where
         followed : (next : World Task) × Fires m k.bases e next × Follows m next (moved m (world_kept tasks ended) (Happen e)) (recount m (world_kept tasks ended) (Happen e) (λ t. slice_index steps t))
         followed = follow_event m IsProper lawful k.bases (world_kept tasks ended) (λ t. slice_index steps t) e k.follows sound (both (ap not runs) h)
-
-        same_tasks : (λ t. seat_of tasks' t) ≡ acted (numbered m) kept e
-        same_tasks = (λ i t. seat_of (acts i) t) ∙
-            view_acted m e tasks (subst (λ (g : ℕ → Seat Task). happens m g e ≡ true) (λ i t. record { local = (kept t).local; standing = sym (stills t) i }) h)
 
         few : (b : Bool) (t : ℕ) → (if b then 0 else slice_index steps t) ≤ bound
         few true t = omega arith

@@ -6,4 +6,6 @@ pub mod Continuing
 pub mod Starting
 pub mod Seeing
 pub mod Resting
+pub mod Rested
 pub mod Fronts
+pub mod Laws

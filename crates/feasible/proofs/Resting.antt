@@ -99,6 +99,10 @@ ended_has : (front : List Event) → HasNoEnd (front ++ Z ∷ []) → ⊥
 ended_has [] h = true≢false (sym h)
 ended_has (e ∷ front) h = ended_has front (and_parts (not (is_last e)) (list_all (λ x. not (is_last x)) (front ++ Z ∷ [])) h).1
 
+-- Events that end with the end of the program have one.
+pub not_ended : (events : List Event) → HaveEnded events → HasNoEnd events → ⊥
+not_ended events (front, is) more = ended_has front (subst HasNoEnd is more)
+
 -- ---- what is so of events without their end
 
 module _ (setup : ProgramWithInputs) (numbers : Numbering) (events : List Event) where
@@ -211,7 +215,8 @@ module _ (setup : ProgramWithInputs) (events : List Event) (j : Kept) (s : Stand
       (seat_settled setup j.numbers j.bound events more j.tasks j.steps j.ended
       (subst (λ es. AreKept setup j.numbers j.bound es j.tasks j.steps j.ended) all_taken s.keeps) t settled)
 
-  kept_all : AreKept setup j.numbers j.bound events j.tasks j.steps j.ended
+  -- What is kept stands for all the events.
+  pub kept_all : AreKept setup j.numbers j.bound events j.tasks j.steps j.ended
   kept_all = subst (λ es. AreKept setup j.numbers j.bound es j.tasks j.steps j.ended) all_taken s.keeps
 
   -- A settled task is not open.
@@ -224,5 +229,4 @@ module _ (setup : ProgramWithInputs) (events : List Event) (j : Kept) (s : Stand
 
   pub an_end : j.ended ≡ true → HasNoEnd events → ⊥
   an_end ended more =
-      let (front, is) = (ends_exactly setup events j s).0 ended in
-      ended_has front (subst HasNoEnd (sym all_taken ∙ is) more)
+      not_ended events (subst HaveEnded all_taken ((ends_exactly setup events j s).0 ended)) more

@@ -14,6 +14,7 @@ ghost use Rattle.task_machine.specs.Table.{setup_in};
 ghost use Rattle.feasible.specs.inner.Deciding.{IsDecided, taken_with, ended_with};
 ghost use Rattle.feasible.specs.Failing.{view_at};
 ghost use Rattle.feasible.specs.Keeping.{StandsFor, NothingFollows, IsSettled, is_feasible, is_infeasible};
+ghost use Rattle.feasible.specs.Rested.{HaveRested, is_changed};
 ghost use Rattle.feasible.specs.Shown.{IsShown, Shows};
 
 use crate::conditions::failing;
@@ -92,7 +93,7 @@ impl<'p> Judge<'p> {
     }
 
     /// The verdict on the events given so far and this one. After a verdict other than feasible it stays that verdict, and after want of
-    /// memory the answer is want of memory from then on.
+    /// memory the answer is want of memory from then on, and the verdict stays what it was.
     ///
     /// No event is to follow the end of the program, and fewer than 2³² events are to be given.
     pub fn next(&mut self, e: &Event) -> Result<Verdict, Memory>
@@ -101,7 +102,13 @@ impl<'p> Judge<'p> {
         ensures verdict { (setup : ProgramWithInputs) (events : List event.Event) → StandsFor setup events self.old → HasNoEnd events → IfOk result (VerdictIs setup self.old.numbers self.old.bound (events ++ e.now ∷ [])) }
         ensures stands { (setup : ProgramWithInputs) (events : List event.Event) → StandsFor setup events self.old → HasNoEnd events → OnOk result (StandsFor setup (events ++ e.now ∷ []) self.new) }
         ensures settled { is_feasible self.old.verdict ≡ true → IfOk result (λ v. is_infeasible v ≡ true → All (IsSettled self.new.tasks) (needed_of self.old.numbers e.now)) }
+        ensures rested { is_feasible self.old.verdict ≡ true → IfOk result (HaveRested self.old.numbers e.now self.new.tasks) }
+        // a settled task that the event does not change stays settled
+        ensures others { (setup : ProgramWithInputs) (events : List event.Event) → StandsFor setup events self.old → HasNoEnd events → (t : ℕ) → IsSettled self.old.tasks t → IfOk result (λ v. (is_feasible v ≡ true → is_changed self.old.numbers self.old.tasks e.now t ≡ false) → IsSettled self.new.tasks t) }
         ensures last { IfOk result (λ v. v ≡ self.new.verdict) }
+        ensures kept { OnErr result (self.new.verdict ≡ self.old.verdict) }
+        ensures not_taken { OnErr result (self.new.taken ≡ self.old.taken) }
+        ensures not_ended { OnErr result (self.new.ended ≡ self.old.ended) }
         ensures taken { self.new.taken ≤ self.old.taken + 1 }
         ensures grows { self.old.taken ≤ self.new.taken }
         ensures numbers { self.new.numbers ≡ self.old.numbers }
@@ -120,8 +127,8 @@ impl<'p> Judge<'p> {
         self.bound
     }
 
-    /// What is seen of a task that is closed, served or settled: it has been run on to where it has no local step. After an infeasible
-    /// event each task that it needs is.
+    /// What is seen of a task that is closed, served or settled: a free one has been run on to where it has no local step. The answers of
+    /// `next` and `settle` say which tasks are.
     pub fn offer<'a>(&'a self, task: u32) -> TaskView<'a>
         requires { IsSettled self.now.tasks task }
         // after the events that have happened
@@ -147,6 +154,9 @@ impl<'p> Judge<'p> {
         ensures last { IfOk result (λ v. v ≡ self.new.verdict) }
         ensures numbers { self.new.numbers ≡ self.old.numbers }
         ensures bound { self.new.bound ≡ self.old.bound }
+        ensures kept { OnErr result (self.new.verdict ≡ self.old.verdict) }
+        ensures not_taken { OnErr result (self.new.taken ≡ self.old.taken) }
+        ensures not_ended { OnErr result (self.new.ended ≡ self.old.ended) }
         ensures memory { OnOk result (self.new.lost ≡ false) }
         ensures lost { OnErr result (self.new.lost ≡ true) }
         ensures still_lost { self.old.lost ≡ true → IsErr result }

@@ -1,3 +1,5 @@
+pub mod Ascents
+pub mod Choices
 pub mod Orders
 pub mod Offers
 pub mod Proposed
@@ -9,3 +11,6 @@ pub mod Letters
 pub mod Next
 pub mod Telling
 pub mod Whole
+pub mod Going
+pub mod Knowing
+pub mod Continued

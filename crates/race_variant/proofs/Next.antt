@@ -28,6 +28,7 @@ use Rattle.task_machine.proofs.Verdicts.{verdict_on, verdict_held}
 use Rattle.feasible.proofs.Running.{tasks_from}
 use Rattle.race_variant.specs.Variants.{HoldsUp}
 use Rattle.race_variant.specs.inner.Passing.{offer_seen}
+use Rattle.race_variant.proofs.Choices.{past_last}
 use Rattle.race_variant.proofs.Offers.{acting, accepting, holds_Z}
 
 closed_view : (z : Standing) (o : Offer) → is_closed_view (view_in z o) ≡ is_closed z
@@ -150,16 +151,8 @@ module _ (setup : ProgramWithInputs) (numbers : Numbering) (bound : ℕ) (events
     holds_open t (going, e, known, at, v) = ⊎_elim
         (λ (k : (events ≡ v.before) × (e ≡ v.event)). subst (λ es. IsOpenAt setup numbers es t bound) (sym k.0) v.stays_open)
         (⊎_elim
-        (λ (k : (mid : List Event) × (v.before ≡ (events ++ e ∷ mid))). absurd (too_long k.0 (v.reached.splits ∙ ap (λ es. es ++ v.event ∷ v.reached.rest) k.1)))
+        (λ (k : (mid : List Event) × (v.before ≡ (events ++ e ∷ mid))). absurd (past_last events k.0 v.reached.rest e v.event (v.reached.splits ∙ ap (λ es. es ++ v.event ∷ v.reached.rest) k.1)))
         (λ (k : (mid : List Event) × (events ≡ (v.before ++ v.event ∷ mid))).
         absurd (at_split (λ u. IsOpenAt setup numbers v.before u bound → ⊥) v.earlier v.later t
         (subst (λ ts. NoneOpen setup numbers bound v.before ts) v.order (well v.before k.0 v.event k.1).0) v.stays_open)))
         (two_splits events v.before [] v.reached.rest e v.event v.reached.splits)
-      where
-        too_long : (mid : List Event) → (events ++ e ∷ []) ≡ ((events ++ e ∷ mid) ++ v.event ∷ v.reached.rest) → ⊥
-        too_long mid h =
-            let a : length (events ++ e ∷ []) ≡ length events + length (e ∷ []) = length-append events (e ∷ []) in
-            let b : length ((events ++ e ∷ mid) ++ v.event ∷ v.reached.rest) ≡ length (events ++ e ∷ mid) + length (v.event ∷ v.reached.rest) = length-append (events ++ e ∷ mid) (v.event ∷ v.reached.rest) in
-            let d : length (events ++ e ∷ mid) ≡ length events + length (e ∷ mid) = length-append events (e ∷ mid) in
-            let same : length (events ++ e ∷ []) ≡ length ((events ++ e ∷ mid) ++ v.event ∷ v.reached.rest) = ap length h in
-            omega arith

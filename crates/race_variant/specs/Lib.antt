@@ -1,3 +1,5 @@
 pub mod Variants
 pub mod Continuing
+pub mod KnownOffers
+pub mod GoingLaws
 pub mod inner

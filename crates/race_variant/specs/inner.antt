@@ -1,3 +1,4 @@
 pub mod Ending
 pub mod Passing
 pub mod Proposing
+pub mod Choosing

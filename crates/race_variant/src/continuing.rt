@@ -1,11 +1,12 @@
 // Going on from the events for which a judge stands, by choices.
 
-ghost use Rattle.std.specs.Prelude.{◌≡◌, ◌≤◌, ◌<◌, ◌+◌, ◌^◌, ◌%◌, ◌++◌, ◌∷◌, ◌×◌, ℕ, List, [], true, false, Some, None, length, slice_get, IfOk, OnOk, OnErr};
+ghost use Rattle.std.specs.Prelude.{◌≡◌, ◌≤◌, ◌<◌, ◌+◌, ◌^◌, ◌%◌, ◌++◌, ◌∷◌, ℕ, List, [], true, false, Some, None, length, slice_get, IfOk, OnOk, OnErr};
 ghost use Rattle.std.specs.Fn.{iterate};
 ghost use Rattle.event_machine.specs.declared.Event as event;
 ghost use Rattle.task_model.specs.Machine.{ProgramWithInputs};
 ghost use Rattle.feasible.specs.Keeping.{StandsFor, is_feasible};
 ghost use Rattle.race_variant.specs.Continuing.{AreChosen, IsContinued};
+ghost use Rattle.race_variant.specs.inner.Choosing.{HaltsBy, HasSome, IsOneMore, StaysFeasible, AreChosenBy, HasGoneOn, HasEnded};
 
 use crate::finding::list_variants;
 use ada_tree::Memory;
@@ -48,7 +49,7 @@ pub fn go_on<C: Chooser>(
     // for each list for which the judge stands
     ensures continued { (setup : ProgramWithInputs) (events : List event.Event) → StandsFor setup events j.old → IfOk result (IsContinued C.word C.next setup j.old.numbers j.old.bound events choices.old most chosen.new.items) }
     ensures stands { (setup : ProgramWithInputs) (events : List event.Event) → StandsFor setup events j.old → OnOk result (StandsFor setup (events ++ chosen.new.items) j.new) }
-    ensures feasible { (setup : ProgramWithInputs) (events : List event.Event) → StandsFor setup events j.old → OnOk result (is_feasible j.new.verdict ≡ true) }
+    ensures feasible { (setup : ProgramWithInputs) (events : List event.Event) → StandsFor setup events j.old → is_feasible j.new.verdict ≡ true }
     ensures so_far { (setup : ProgramWithInputs) (events : List event.Event) → StandsFor setup events j.old → OnErr result (AreChosen C.word C.next setup j.old.numbers j.old.bound events choices.old chosen.new.items) }
     ensures within { length chosen.new.items ≤ most }
     ensures chooser { OnOk result (choices.new ≡ iterate C.next (length chosen.new.items) choices.old) }
@@ -79,6 +80,11 @@ fn go_on_kept<C: Chooser>(
     requires numbers { numbers.now ≡ j.old.numbers }
     requires none { chosen.old.items ≡ [] }
     requires few { j.old.taken + most < 2 ^ 32 }
+    ensures gone { OnOk result (HasGoneOn C.word C.next j.old choices.old chosen.new.items j.new choices.new) }
+    ensures ended { IfOk result (HasEnded j.old most chosen.new.items) }
+    ensures so_far { AreChosenBy C.word C.next j.old choices.old chosen.new.items j.new }
+    ensures within { length chosen.new.items ≤ most }
+    ensures kept { OnOk result (j.old.lost ≡ false) }
 {
     let mut found = Vec::new(alloc);
     for _turn in 0..most {
@@ -93,7 +99,7 @@ fn go_on_kept<C: Chooser>(
     }
 }
 
-// How it ends here by itself, if it does; `found` becomes the list of what can come next.
+// How it ends here by itself, if it does; else `found` becomes the list of what can come next.
 fn halted(
     alloc: Global,
     j: &mut Judge,
@@ -101,6 +107,14 @@ fn halted(
     found: &mut Vec<Event>,
 ) -> Result<Option<GoEnd>, Memory>
     requires numbers { numbers.now ≡ j.old.numbers }
+    ensures halts { (setup : ProgramWithInputs) (events : List event.Event) → StandsFor setup events j.old → is_feasible j.old.verdict ≡ true → IfOk result (HaltsBy setup j.old.numbers j.old.bound events found.new.items) }
+    ensures some { IfOk result (HasSome found.new.items) }
+    ensures stands { (setup : ProgramWithInputs) (events : List event.Event) → StandsFor setup events j.old → OnOk result (StandsFor setup events j.new) }
+    ensures same_numbers { j.new.numbers ≡ j.old.numbers }
+    ensures bound { j.new.bound ≡ j.old.bound }
+    ensures taken { j.new.taken ≡ j.old.taken }
+    ensures verdict { j.new.verdict ≡ j.old.verdict }
+    ensures kept { OnOk result (j.old.lost ≡ false) }
 {
     let mut unsettled = Vec::new(alloc);
     list_variants(alloc, j, numbers, None, found, &mut unsettled)?;
@@ -124,6 +138,13 @@ fn choose<C: Chooser>(
 ) -> Result<(), Memory>
     requires some { 0 < length found.now }
     requires few { j.old.taken + 1 < 2 ^ 32 }
+    ensures one { OnOk result (IsOneMore C.word C.next found.now choices.old choices.new chosen.old.items chosen.new.items j.old j.new) }
+    ensures feasible { StaysFeasible found.now j.old j.new }
+    ensures unchanged { OnErr result (chosen.new.items ≡ chosen.old.items) }
+    ensures same_numbers { j.new.numbers ≡ j.old.numbers }
+    ensures bound { j.new.bound ≡ j.old.bound }
+    ensures taken { j.new.taken ≤ j.old.taken + 1 }
+    ensures kept { OnOk result (j.new.lost ≡ false → j.old.lost ≡ false) }
 {
     let event = pick(found, choices)?;
     let _verdict = j.next(&event)?;

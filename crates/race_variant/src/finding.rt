@@ -35,7 +35,7 @@ pub fn variants(
     ensures same_numbers { j.new.numbers ≡ j.old.numbers }
     ensures bound { j.new.bound ≡ j.old.bound }
     ensures taken { j.new.taken ≡ j.old.taken }
-    ensures verdict { OnOk result (j.new.verdict ≡ j.old.verdict) }
+    ensures verdict { j.new.verdict ≡ j.old.verdict }
     ensures kept { OnOk result (j.old.lost ≡ false) }
     ensures none { OnErr result ((found.new.items ≡ []) × (unsettled.new.items ≡ [])) }
     ensures lost { OnErr result (j.new.lost ≡ true) }
@@ -58,7 +58,7 @@ pub(crate) fn list_variants(
     ensures same_numbers { j.new.numbers ≡ j.old.numbers }
     ensures bound { j.new.bound ≡ j.old.bound }
     ensures taken { j.new.taken ≡ j.old.taken }
-    ensures verdict { OnOk result (j.new.verdict ≡ j.old.verdict) }
+    ensures verdict { j.new.verdict ≡ j.old.verdict }
     ensures kept { OnOk result (j.old.lost ≡ false) }
     ensures none { OnErr result ((found.new.items ≡ []) × (unsettled.new.items ≡ [])) }
     ensures lost { OnErr result (j.new.lost ≡ true) }

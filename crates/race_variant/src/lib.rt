@@ -7,8 +7,10 @@ mod adding;
 mod asking;
 mod continuing;
 mod finding;
+mod laws;
 mod proposing;
 mod seeing;
 
 pub use continuing::{GoEnd, go_on};
 pub use finding::variants;
+pub use laws::laws;

@@ -38,12 +38,16 @@ impl<'p> Judge<'p> {
         self.run_task(task)
     }
 
-    /// Gives the judge up, where its caller is out of memory: it answers want of memory from then on.
+    /// Gives the judge up, where its caller is out of memory: it answers want of memory from then on. All else stays.
     pub fn give_up(&mut self)
         ensures lost { self.new.lost ≡ true }
         ensures numbers { self.new.numbers ≡ self.old.numbers }
         ensures bound { self.new.bound ≡ self.old.bound }
         ensures taken { self.new.taken ≡ self.old.taken }
+        ensures verdict { self.new.verdict ≡ self.old.verdict }
+        ensures ended { self.new.ended ≡ self.old.ended }
+        ensures tasks { self.new.tasks ≡ self.old.tasks }
+        ensures steps { self.new.steps ≡ self.old.steps }
     {
         self.lost = true;
     }
