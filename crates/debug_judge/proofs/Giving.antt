@@ -1,8 +1,8 @@
 -- A judge that is given the events of a sequence one after the other, whatever it finds.
-use Rattle.std.proofs.Common.{◌≡◌, ℕ, ◌+◌, ◌-◌, ◌<◌, ◌≤◌, Bool, true, false, cond, List, [], ◌∷◌, ◌++◌, length, take, Option, Some, None, refl, sym, ap, ◌∙◌, subst, arith, true≢false, inl, inr, length-append}
+use Rattle.std.proofs.Common.{◌≡◌, ℕ, ◌+◌, ◌-◌, ◌<◌, ◌≤◌, ◌^◌, Bool, true, false, cond, List, [], ◌∷◌, ◌++◌, length, take, Option, Some, None, refl, sym, ap, ◌∙◌, subst, arith, true≢false, inl, inr, length-append}
 use Rattle.std.specs.Prelude.{All, IfSome, slice_get, ◌&&◌, not}
 use Rattle.std.proofs.lemmas.Bool.{cases_Bool}
-use Rattle.std.proofs.lemmas.List.{get_or_append_left}
+use Rattle.std.proofs.lemmas.List.{get_or_append_left, length-take-le}
 use Rattle.std.proofs.lemmas.Option.{slice_get-get_or}
 use Rattle.event_machine.specs.declared.Event.{Event}
 use Rattle.event_machine.specs.Tallies.{HasNoEnd}
@@ -187,6 +187,15 @@ few_taken setup events k s = elim (cases_Bool (is_feasible k.verdict)) [
   | inl well ↦ (let same : k.taken ≡ length events = all_taken events k.taken k.verdict s.counts well in omega arith)
   | inr bad ↦ (let less : k.taken < length events = some_taken events k.taken k.verdict s.counts bad in omega arith)
 ]
+
+-- so there is room for one event more
+pub few_given : (setup : ProgramWithInputs) (numbers : Numbering) (bound : ℕ) (events : List Event) (n : ℕ) (found : LinesVerdict) → IsFoundOf setup numbers bound (take n events) found → n < length events → length events < 2 ^ 32 →
+    (found.judge.taken + 1 < 2 ^ 32) × (found.count + 1 < 2 ^ 32)
+few_given setup numbers bound events n found f less few =
+    let count : length (take n events) ≡ n = length-take-le n events (omega arith) in
+    let taken : found.judge.taken ≤ length (take n events) = few_taken setup (take n events) found.judge f.stands in
+    let counted : found.count ≡ length (take n events) = f.count in
+    (omega arith, omega arith)
 
 module _ (setup : ProgramWithInputs) (numbers : Numbering) (events : List Event) (end : NothingFollows events) (k : Kept) (s : StandsFor setup events k) (same : k.numbers ≡ numbers) where
   -- the event at place k.taken was refused

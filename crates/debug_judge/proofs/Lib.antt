@@ -1,3 +1,4 @@
 pub mod Giving
 pub mod Lining
 pub mod Judged
+pub mod Ordered

@@ -53,7 +53,7 @@ pub(crate) fn first_found<'p>(
     inputs: &Inputs,
     local_bound: u64,
 ) -> Result<LinesVerdict<'p>, Memory>
-    ensures found { IfOk result (IsFoundOf (setup_in links.now inputs.now) links.now.numbers local_bound []) }
+    ensures { IfOk result (IsFoundOf (setup_in links.now inputs.now) links.now.numbers local_bound []) }
 {
     let judge = Judge::new(alloc, links, inputs, local_bound)?;
     Ok(LinesVerdict {
@@ -94,7 +94,8 @@ fn event_with(
     }
 }
 
-fn is_feasible(verdict: Verdict) -> bool
+/// Whether the verdict is that some run has exactly these events.
+pub fn is_feasible(verdict: Verdict) -> bool
     ensures { result ≡ is_feasible verdict }
 {
     matches!(verdict, Verdict::Feasible)

@@ -5,6 +5,6 @@ mod judged_events;
 mod judged_lines;
 mod verdict_texts;
 
-pub use judged_events::{LinesVerdict, judge_events};
+pub use judged_events::{LinesVerdict, is_feasible, judge_events};
 pub use judged_lines::{LinesError, judge_lines};
 pub use verdict_texts::{report_found, report_lines};

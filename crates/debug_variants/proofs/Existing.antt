@@ -1,13 +1,13 @@
 -- After feasible events there are variants: what is seen of each task can be tried out, and what each offers proposes all that can come next.
 use Rattle.std.proofs.Common.{◌≡◌, ◌↔◌, ℕ, ℤ, zero, suc, ◌+◌, ◌<◌, ◌≤◌, ◌==◌, Bool, true, false, not, List, [], ◌∷◌, ◌++◌, length, map, refl, sym, ap, ◌∙◌, subst, arith, true≢false, ⊎_elim, ◌⊎◌, inl, inr, Option, Some, None, length-append}
 use Rattle.std.specs.Prelude.{All, pos, negsuc, if◌then◌else◌, slice_index_or, slice_get}
-use Rattle.std.specs.List.{AllPairs, Contains, list_all, pointwise}
+use Rattle.std.specs.Cmp.Lexicographic.{pointwise, pointwise_decides}
+use Rattle.std.specs.List.{AllPairs, Contains, list_all}
 use Rattle.std.specs.Ordering.{int_eq}
 use Rattle.std.proofs.lemmas.Bool.{cases_Bool, cases_lt}
 use Rattle.std.proofs.lemmas.Bool.Decides.{Decides-eqb, Decides-int_eq}
 use Rattle.std.proofs.lemmas.List.Elements.{All-nil, All-cons, All-head, All-contains, Contains-append_right, Contains-push, Contains-push_cases, Contains-append_left}
 use Rattle.std.proofs.lemmas.List.Quantifiers.{all_pairs_push}
-use Rattle.std.proofs.lemmas.Slice.Eq.{slice_eq-Decides}
 use Rattle.event_machine.specs.declared.Event.{Event}
 use Rattle.event_machine.specs.declared.Event.TheVariants as event
 use Rattle.event_machine.specs.declared.Standing.{Standing}
@@ -85,9 +85,9 @@ same_or_not e f = elim (cases_Bool (letter_of e == letter_of f)) [
   | inl letters ↦ elim (cases_Bool (pointwise int_eq (numbers_in e) (numbers_in f))) [
     | inl numbers ↦ inl (sym (made_again e)
         ∙ ap (λ l. made_of l (numbers_in e)) ((Decides-eqb (letter_of e) (letter_of f)).0 letters)
-        ∙ ap (made_of (letter_of f)) ((slice_eq-Decides Decides-int_eq (numbers_in e) (numbers_in f) _ refl).0 numbers)
+        ∙ ap (made_of (letter_of f)) ((pointwise_decides Decides-int_eq (numbers_in e) (numbers_in f)).0 numbers)
         ∙ made_again f)
-    | inr others ↦ inr (λ same. true≢false (sym ((slice_eq-Decides Decides-int_eq (numbers_in e) (numbers_in f) _ refl).1 (ap numbers_in same)) ∙ others))
+    | inr others ↦ inr (λ same. true≢false (sym ((pointwise_decides Decides-int_eq (numbers_in e) (numbers_in f)).1 (ap numbers_in same)) ∙ others))
   ]
   | inr other ↦ inr (λ same. true≢false (sym ((Decides-eqb (letter_of e) (letter_of f)).1 (ap letter_of same)) ∙ other))
 ]

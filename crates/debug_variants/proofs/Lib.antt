@@ -1,0 +1,4 @@
+mod Existing
+mod Placed
+mod Places
+pub mod OneOutcome

@@ -33,15 +33,20 @@ pub record IsContinuedText {C : Type 0} (word : C → ℕ) (next : C → C) (set
   pub read_back : SeqReads (SeqText setup.program.names numbers (events ++ chosen)) numbers setup.program.names (events ++ chosen)
   pub is : o ≡ writes (SeqText setup.program.names numbers (events ++ chosen)) (end_status end)
 
+-- The events call for this outcome, with these choices: that of going on from them, or the text of another verdict.
+abbrev pub GoesOnFrom : {C : Type 0} → (C → ℕ) → (C → C) → ProgramWithInputs → Numbering → ℕ → List Event → C → ℕ → Outcome → Type 0
+GoesOnFrom word next setup numbers bound events chooser count o =
+    IsContinuedText word next setup numbers bound events chooser count o ⊎ IsOtherVerdictText setup numbers bound events o
+
 -- With so many events more there could be more than a file may have, and the outcome tells that limit.
 pub record CouldBeTooMany (events : List Event) (count : ℕ) (o : Outcome) : Type 0 where
   pub many : most_events < length events + count
   pub told : o ≡ refuses (TooMany Events most_events)
 
--- A file may have as many events, and the outcome is that of going on from these, or the text of another verdict.
+-- A file may have as many events, and these call for the outcome.
 pub record FitsAndGoesOn {C : Type 0} (word : C → ℕ) (next : C → C) (setup : ProgramWithInputs) (numbers : Numbering) (bound : ℕ) (events : List Event) (chooser : C) (count : ℕ) (o : Outcome) : Type 0 where
   pub few : length events + count ≤ most_events
-  pub told : IsContinuedText word next setup numbers bound events chooser count o ⊎ IsOtherVerdictText setup numbers bound events o
+  pub told : GoesOnFrom word next setup numbers bound events chooser count o
 
 -- The bytes stand for a sequence of the program, and the outcome is that of going on from it for at most so many events: the limit is told before a verdict.
 pub record IsContinuedSequence {C : Type 0} (word : C → ℕ) (next : C → C) (setup : ProgramWithInputs) (numbers : Numbering) (lines : List ℕ) (chooser : C) (count bound : ℕ) (o : Outcome) : Type 0 where

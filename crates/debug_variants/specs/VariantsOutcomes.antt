@@ -61,11 +61,15 @@ pub record IsVariantsText (setup : ProgramWithInputs) (numbers : Numbering) (bou
   pub are : ArePlaces setup numbers bound events places
   pub is : o ≡ writes (variants_text events places) 0
 
--- The bytes stand for a sequence of the program, and the outcome tells of its places, or is the text of another verdict.
+-- The events call for this outcome: their places, or the text of another verdict.
+abbrev pub VariantsOf : ProgramWithInputs → Numbering → ℕ → List Event → Outcome → Type 0
+VariantsOf setup numbers bound events o = IsVariantsText setup numbers bound events o ⊎ IsOtherVerdictText setup numbers bound events o
+
+-- The bytes stand for a sequence of the program, and its events call for the outcome.
 pub record AreVariantsOfSequence (setup : ProgramWithInputs) (numbers : Numbering) (lines : List ℕ) (bound : ℕ) (o : Outcome) : Type 0 where
   pub events : List Event
   pub reads : ReadsAs lines numbers setup.program.names events
-  pub told : IsVariantsText setup numbers bound events o ⊎ IsOtherVerdictText setup numbers bound events o
+  pub told : VariantsOf setup numbers bound events o
 
 -- The bytes of a sequence call for this outcome: its variants, the text of another verdict than feasible, or why they stand for no sequence.
 abbrev pub VariantsMean : ProgramWithInputs → Numbering → List ℕ → ℕ → Outcome → Type 0

@@ -1,6 +1,6 @@
 //! Going on from a sequence.
 
-ghost use Rattle.std.specs.Prelude.{◌≡◌, ◌≤◌, ◌<◌, ◌+◌, ◌-◌, ◌^◌, ◌⊎◌, true, length};
+ghost use Rattle.std.specs.Prelude.{◌≡◌, ◌≤◌, ◌<◌, ◌+◌, ◌-◌, ◌^◌, true, length};
 ghost use Rattle.ada_tree.specs.PlainProgram.{plain_program};
 ghost use Rattle.syn_event.specs.DeclaredTasks.{text_of};
 ghost use Rattle.seq_file.specs.Files.{AreFit, most_events};
@@ -10,17 +10,16 @@ ghost use Rattle.task_model.specs.Machine.{ProgramWithInputs};
 ghost use Rattle.task_machine.specs.Table.{setup_in};
 ghost use Rattle.feasible.specs.Keeping.{StandsFor, is_feasible};
 ghost use Rattle.debug_outcome.specs.Coming.{Comes, Never};
-ghost use Rattle.debug_judge.specs.JudgeOutcomes.{IsOtherVerdictText};
-ghost use Rattle.debug_variants.specs.ContinueOutcomes.{ContinueMeans, IsContinuedText, end_status};
+ghost use Rattle.debug_variants.specs.ContinueOutcomes.{ContinueMeans, GoesOnFrom, IsContinuedText, end_status};
 
 use ada_tree::{Program, Types};
 use ada_value::Inputs;
-use debug_judge::{judge_events, report_found};
+use debug_judge::{is_feasible, judge_events, report_found};
 use debug_outcome::{Listed, Refusal, Stop};
 use debug_sequence::read_sequence;
 use ded_io::{Chooser, Sink};
 use event_machine::Event;
-use feasible::{Judge, Verdict};
+use feasible::Judge;
 use race_variant::{GoEnd, go_on};
 use seq_file::write_seq;
 use std::alloc::Global;
@@ -84,24 +83,16 @@ fn report_from<'w, 'p, C: Chooser, K: Sink>(
 ) -> Result<u8, Stop<'w>>
     requires fit { AreFit links.now.numbers events.items }
     requires few { length events.items + count ≤ most_events }
-    ensures { Comes (λ o. IsContinuedText C.word C.next (setup_in links.now inputs.now) links.now.numbers bound events.items choices.old count o ⊎ IsOtherVerdictText (setup_in links.now inputs.now) links.now.numbers bound events.items o) Never
-        (K.told out.old) (K.told out.new) (K.faults out.old) (K.faults out.new) result }
+    ensures { Comes (GoesOnFrom C.word C.next (setup_in links.now inputs.now) links.now.numbers bound events.items choices.old count) Never (K.told out.old) (K.told out.new) (K.faults out.old) (K.faults out.new) result }
 {
     let mut found = match judge_events(alloc, links, inputs, &events, bound) {
         Ok(found) => found,
         Err(_) => return Err(Stop::Memory),
     };
-    match found.verdict {
-        Verdict::Feasible => go_on_from(
-            alloc,
-            links,
-            &mut found.judge,
-            events,
-            choices,
-            count,
-            out,
-        ),
-        Verdict::Infeasible { .. } | Verdict::Unsettled { .. } => report_found(&found, links, out),
+    if is_feasible(found.verdict) {
+        go_on_from(alloc, links, &mut found.judge, events, choices, count, out)
+    } else {
+        report_found(&found, links, out)
     }
 }
 

@@ -1,6 +1,6 @@
 //! What can come at each place of a sequence, and which tasks are open there.
 
-ghost use Rattle.std.specs.Prelude.{◌≡◌, ◌≤◌, ◌<◌, ◌+◌, ◌-◌, ◌^◌, ◌⊎◌, ℕ, List, Option, true, length};
+ghost use Rattle.std.specs.Prelude.{◌≡◌, ◌≤◌, ◌<◌, ◌+◌, ◌-◌, ◌^◌, ℕ, List, Option, true, length};
 ghost use Rattle.ada_tree.specs.PlainProgram.{plain_program};
 ghost use Rattle.event_machine.specs.declared.Event as event;
 ghost use Rattle.syn_event.specs.DeclaredTasks.{text_of};
@@ -8,23 +8,23 @@ ghost use Rattle.seq_file.specs.Files.{NothingFollowsEnd, most_events};
 ghost use Rattle.seq_file.specs.Lines.{is_upper_name};
 ghost use Rattle.seq_file.specs.Lists.{list_count};
 ghost use Rattle.task_model.specs.Machine.{ProgramWithInputs};
+ghost use Rattle.task_machine.specs.declared.verdict.Verdict.TheVariants.{Feasible};
 ghost use Rattle.task_machine.specs.Judging.{VerdictIs};
 ghost use Rattle.task_machine.specs.Table.{setup_in};
 ghost use Rattle.feasible.specs.Keeping.{is_feasible};
 ghost use Rattle.debug_outcome.specs.Coming.{Comes};
-ghost use Rattle.debug_judge.specs.JudgeOutcomes.{IsOtherVerdictText};
-ghost use Rattle.debug_variants.specs.VariantsOutcomes.{VariantsMean, IsVariantsText};
+ghost use Rattle.debug_variants.specs.VariantsOutcomes.{VariantsMean, VariantsOf, IsVariantsText};
 ghost use Rattle.debug_variants.specs.inner.Placing.{AreToldTo};
 
 use crate::placing::{put_numbered, tell_place};
 use ada_tree::{Program, Types};
 use ada_value::Inputs;
-use debug_judge::{judge_events, report_found};
+use debug_judge::{is_feasible, judge_events, report_found};
 use debug_outcome::Stop;
 use debug_sequence::read_sequence;
 use ded_io::Sink;
 use event_machine::Event;
-use feasible::{Judge, Verdict};
+use feasible::Judge;
 use std::alloc::Global;
 use syn_event::Numbers;
 use task_links::Links;
@@ -72,16 +72,16 @@ fn report_events<'w, 'p, K: Sink>(
 ) -> Result<u8, Stop<'w>>
     requires end { NothingFollowsEnd events.now }
     requires few { length events.now ≤ most_events }
-    ensures { let Mean = (λ o. IsVariantsText (setup_in links.now inputs.now) links.now.numbers bound events.now o ⊎ IsOtherVerdictText (setup_in links.now inputs.now) links.now.numbers bound events.now o) in
-        Comes Mean Mean (K.told out.old) (K.told out.new) (K.faults out.old) (K.faults out.new) result }
+    ensures { let Mean = VariantsOf (setup_in links.now inputs.now) links.now.numbers bound events.now in Comes Mean Mean (K.told out.old) (K.told out.new) (K.faults out.old) (K.faults out.new) result }
 {
     let found = match judge_events(alloc, links, inputs, events, bound) {
         Ok(found) => found,
         Err(_) => return Err(Stop::Memory),
     };
-    match found.verdict {
-        Verdict::Feasible => tell_places(alloc, links, inputs, events, bound, out),
-        Verdict::Infeasible { .. } | Verdict::Unsettled { .. } => report_found(&found, links, out),
+    if is_feasible(found.verdict) {
+        tell_places(alloc, links, inputs, events, bound, out)
+    } else {
+        report_found(&found, links, out)
     }
 }
 
@@ -96,7 +96,7 @@ fn tell_places<'w, 'p, K: Sink>(
 ) -> Result<u8, Stop<'w>>
     requires end { NothingFollowsEnd events.now }
     requires few { length events.now ≤ most_events }
-    requires feasible { VerdictIs (setup_in links.now inputs.now) links.now.numbers bound events.now Verdict.Feasible }
+    requires feasible { VerdictIs (setup_in links.now inputs.now) links.now.numbers bound events.now Feasible }
     ensures { let Mean = IsVariantsText (setup_in links.now inputs.now) links.now.numbers bound events.now in Comes Mean Mean (K.told out.old) (K.told out.new) (K.faults out.old) (K.faults out.new) result }
 {
     let mut judge = match Judge::new(alloc, links, inputs, bound) {
@@ -133,7 +133,7 @@ fn tell_last<'w, K: Sink>(
     requires numbers { numbers.now ≡ judge.old.numbers }
     // where all places before it were told, and the judge stands for all events
     ensures { (setup : ProgramWithInputs) (bound : ℕ) (events : List event.Event) (told : Option (List ℕ)) (faults : ℕ) → AreToldTo setup numbers.now bound events (length events) judge.old told (K.told out.old) faults (K.faults out.old)
-        → NothingFollowsEnd events → VerdictIs setup numbers.now bound events Verdict.Feasible → number ≡ length events + 1
+        → NothingFollowsEnd events → VerdictIs setup numbers.now bound events Feasible → number ≡ length events + 1
         → let Mean = IsVariantsText setup numbers.now bound events in Comes Mean Mean told (K.told out.new) faults (K.faults out.new) result }
 {
     if judge.ended() {

@@ -2,10 +2,9 @@
 
 ghost use Rattle.std.specs.Prelude.{◌≡◌, [], true, IfOk, OnOk, OnErr};
 ghost use Rattle.event_machine.specs.Offers.{Finishes};
-ghost use Rattle.task_model.specs.Calls.{values_handed};
-ghost use Rattle.task_model.specs.Rendezvous.{accepted, finished, pending_of, returned, took_delay, took_else};
+ghost use Rattle.task_model.specs.Rendezvous.{alternative_opened, finished, pending_of, returned, took_delay, took_else};
 ghost use Rattle.task_model.specs.Stands.{offer_of};
-ghost use Rattle.task_model.specs.Tasks.{Task};
+ghost use Rattle.task_model.specs.Waits.{alternative_for};
 ghost use Rattle.task_local.specs.rendezvous.Handed.{handed_back};
 ghost use Rattle.task_local.specs.inner.InOrder.{task_of, IsInOrder};
 
@@ -24,7 +23,7 @@ impl<'p> TaskParts<'p> {
         formals: &[Value],
     ) -> Result<(), Memory>
         requires { IsInOrder self.old }
-        ensures ok { OnOk result ((calling : Task) → formals.now ≡ values_handed calling → task_of self.new ≡ accepted member.entry member.index caller calling (task_of self.old)) }
+        ensures ok { OnOk result (task_of self.new ≡ alternative_opened caller (alternative_for (task_of self.old) member.entry member.index) formals.now (task_of self.old)) }
         ensures err { OnErr result (task_of self.new ≡ task_of self.old) }
         ensures in_order { IsInOrder self.new }
     {

@@ -4,10 +4,11 @@ ghost use Rattle.std.specs.Prelude.{◌≡◌, [], slice_get, true, IfOk, OnOk, 
 ghost use Rattle.event_machine.specs.Offers.{Finishes};
 ghost use Rattle.task_model.specs.Calls.{values_handed};
 ghost use Rattle.task_model.specs.Frames.{callers_in};
-ghost use Rattle.task_model.specs.Rendezvous.{accepted, finished, past_name, pending_of, returned, took_delay, took_else};
+ghost use Rattle.task_model.specs.Rendezvous.{alternative_opened, finished, past_name, pending_of, returned, took_delay, took_else};
 ghost use Rattle.task_model.specs.Stands.{can_step, offer_of, stepped};
 ghost use Rattle.task_model.specs.Starting.{started_in, unit_of};
-ghost use Rattle.task_model.specs.Tasks.{Task, raised_there};
+ghost use Rattle.task_model.specs.Tasks.{raised_there};
+ghost use Rattle.task_model.specs.Waits.{alternative_for};
 ghost use Rattle.task_local.specs.rendezvous.Handed.{handed_back};
 ghost use Rattle.task_local.specs.OfferView.{offer_as};
 
@@ -113,7 +114,7 @@ impl<'p> LocalTask<'p> {
         caller: u32,
         formals: &[Value],
     ) -> Result<(), Memory>
-        ensures ok { OnOk result ((calling : Task) → formals.now ≡ values_handed calling → self.new.task ≡ accepted e i caller calling self.old.task) }
+        ensures ok { OnOk result (self.new.task ≡ alternative_opened caller (alternative_for self.old.task e i) formals.now self.old.task) }
         ensures err { OnErr result (self.new.task ≡ self.old.task) }
     {
         let member = Member { entry: e, index: i };

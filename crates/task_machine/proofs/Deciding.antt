@@ -187,4 +187,4 @@ module _ (setup : ProgramWithInputs) (numbers : Numbering) (bound : ℕ) where
       by (Unsettled at task, is) go = there (Unsettled at task) (held_stays setup numbers bound (front ++ x ∷ []) (rest ++ e ∷ []) at task is)
 
 pub verdict_exists : VerdictsExist
-verdict_exists setup numbers bound events e more = judge_from setup numbers bound [] events e more (verdict_empty setup numbers bound)
+verdict_exists setup numbers bound = (verdict_empty setup numbers bound, λ events e more. judge_from setup numbers bound [] events e more (verdict_empty setup numbers bound))

@@ -1,4 +1,5 @@
 pub mod Ending
+pub mod Outputs
 pub mod Finishing
 pub mod Mapping
 pub mod Filtered

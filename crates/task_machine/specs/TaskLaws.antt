@@ -5,6 +5,7 @@ use Rattle.event_machine.specs.Tallies.{HasNoEnd}
 use Rattle.syn_event.specs.Numbering.{Numbering}
 use Rattle.task_model.specs.Machine.{ProgramWithInputs}
 use Rattle.task_machine.specs.declared.verdict.Verdict.{Verdict}
+use Rattle.task_machine.specs.declared.verdict.Verdict.TheVariants.{Feasible}
 use Rattle.task_machine.specs.Views.{IsFeasible, View, ViewIs}
 use Rattle.task_machine.specs.Conditions.{all_hold}
 use Rattle.task_machine.specs.Judging.{AreViews, VerdictIs}
@@ -27,8 +28,9 @@ VerdictsAgree =
     (setup : ProgramWithInputs) (numbers : Numbering) (bound : ℕ) (events : List Event) (verdict other : Verdict) →
     VerdictIs setup numbers bound events verdict → VerdictIs setup numbers bound events other → verdict ≡ other
 
--- Each list of events with nothing behind the end of the program has a verdict.
+-- Each list of events with nothing behind the end of the program has a verdict: the empty one, which is feasible, and each that goes on by one event.
 abbrev pub VerdictsExist : Type 0
 VerdictsExist =
-    (setup : ProgramWithInputs) (numbers : Numbering) (bound : ℕ) (events : List Event) (e : Event) → HasNoEnd events →
-    (verdict : Verdict) × VerdictIs setup numbers bound (events ++ e ∷ []) verdict
+    (setup : ProgramWithInputs) (numbers : Numbering) (bound : ℕ) →
+    VerdictIs setup numbers bound [] Feasible
+    × ((events : List Event) (e : Event) → HasNoEnd events → (verdict : Verdict) × VerdictIs setup numbers bound (events ++ e ∷ []) verdict)

@@ -1,10 +1,13 @@
 // The machine.
 
-ghost use Rattle.std.specs.Prelude.{◌≡◌, ◌++◌, ◌∷◌, [], ◌<◌, ◌^◌, true, IfOk, OnOk, OnErr, filter, length};
+ghost use Rattle.std.specs.Prelude.{◌≡◌, ◌++◌, ◌∷◌, [], ◌<◌, ◌^◌, true, List, IfOk, OnOk, OnErr, filter, length};
 ghost use Rattle.event_machine.specs.declared.Action.TheVariants.{End};
+ghost use Rattle.event_machine.specs.declared.Event.{Event as SpecEvent};
 ghost use Rattle.event_machine.specs.Applying.{actions_below};
+ghost use Rattle.event_machine.specs.Tallies.{IsKilledIn};
 ghost use Rattle.task_model.specs.TaskOps.{task_ops};
-ghost use Rattle.task_model.specs.Machine.{after, enabled_of, event_of};
+ghost use Rattle.task_model.specs.Machine.{ProgramWithInputs, after, enabled_of, event_of};
+ghost use Rattle.task_machine.specs.Outputs.{IsQuietEnd, IsOutput};
 ghost use Rattle.task_machine.specs.Table.{can, event_in, opening_in, output_of, applies_in, seen_in, whole};
 
 use crate::Action;
@@ -126,6 +129,18 @@ impl<'p> Machine<'p> {
 
     /// What the task of this number, from 0, has written; past the last task nothing.
     pub fn output(&self, task: u32) -> &[u8]
+        ensures text { result.now ≡ output_of self.now task }
+        // where the machine stands at the quiet end of a run with events by which the task is not killed: each such run gives this output
+        ensures of_all { (setup : ProgramWithInputs) (events : List SpecEvent) → IsQuietEnd setup self.now.numbers events self.now.state → (IsKilledIn events task → ⊥)
+            → IsOutput setup self.now.numbers events task result.now }
+    {
+        self.written_by(task)
+    }
+}
+
+impl<'p> Machine<'p> {
+    // What the task has written.
+    fn written_by(&self, task: u32) -> &[u8]
         ensures { result.now ≡ output_of self.now task }
     {
         match self.seats.get(task as usize) {

@@ -4,7 +4,6 @@ use Rattle.seq_file.specs.Files.{most_events}
 use Rattle.seq_file.specs.Stepping.{StandsBehind, AnswersBehind, AgreesOnFile}
 use Rattle.task_model.specs.Machine.{ProgramWithInputs}
 use Rattle.task_machine.specs.Table.{setup_in}
-use Rattle.debug_judge.proofs.Giving.{found_first}
 use Rattle.debug_judge.proofs.Lining.{no_end_before}
 use Rattle.debug_judge.proofs.judged_lines.judge_lines.Goals as goal
 
@@ -12,9 +11,7 @@ pub loop-given-init : goal.loop-given-init
 loop-given-init c = record {
   events = [];
   read = c.in-Ok.ensures.opened;
-  found_of =
-      found_first (setup_in c.args.links.now c.args.inputs.now) c.args.links.now.numbers c.args.local_bound c.in-Ok-new.judge
-      c.in-Ok-new.ensures.stands c.in-Ok-new.ensures.numbers c.in-Ok-new.ensures.bound;
+  found_of = c.in_ok-found.ensures;
   so_far = refl;
 }
 
@@ -42,7 +39,7 @@ loop-given-preserved c =
     record {
       events = at.events ++ e ∷ [];
       read = behind;
-      found_of = c.in_ok-give-in-Ok-Some.ensures.more setup c.args.links.now.numbers c.args.local_bound at.events at.found_of (no_end_before at.events e behind.read.end);
+      found_of = c.in_ok-give-in-Ok-Some.ensures setup c.args.links.now.numbers c.args.local_bound at.events at.found_of (no_end_before at.events e behind.read.end);
       so_far = omega (arith, at.so_far, length-append at.events (e ∷ []));
     }
 
