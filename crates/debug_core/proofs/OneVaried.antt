@@ -1,6 +1,6 @@
 -- The lines of a sequence call for one outcome where its variants are told, and where it goes on by choices.
 use Rattle.std.specs.Prelude.{◌⊎◌}
-use Rattle.std.proofs.Common.{◌≡◌, ℕ, suc, true, List, [], ◌∷◌, ◌++◌, length, take, slice_get, Some, inl, inr, refl, sym, ap, ap₂, subst, ◌∙◌, arith}
+use Rattle.std.proofs.Common.{◌≡◌, ℕ, true, List, ◌++◌, length, inl, inr, sym, ap₂, subst, ◌∙◌, arith}
 use Rattle.ada_tree.specs.WellPlaced.{IsWellPlaced}
 use Rattle.ded_io.specs.Stored.{first_choice, behind_choice}
 use Rattle.ded_io.specs.seeds.Seeded.{seeded, word_of, behind_word}
@@ -17,49 +17,25 @@ use Rattle.syn_event.specs.Numbering.{Numbering}
 use Rattle.task_model.specs.Machine.{ProgramWithInputs}
 use Rattle.race_variant.specs.declared.continuing.GoEnd.{GoEnd}
 use Rattle.race_variant.proofs.Continued.{one_goes_on}
-use Rattle.race_variant.proofs.Ascents.{one_found, one_unsettled}
 use Rattle.debug_outcome.specs.files.Giving.{Given}
 use Rattle.debug_outcome.specs.Outcomes.{Outcome, writes}
 use Rattle.debug_replay.proofs.OwnTasks.{lists_for_all}
 use Rattle.debug_sequence.specs.Sequences.{ReadsAs}
 use Rattle.debug_sequence.proofs.Sequences.{reads_as_unique, read_or_refused, one_refused}
-use Rattle.debug_variants.specs.ContinueOutcomes.{CouldBeTooMany, FitsAndGoesOn, IsContinuedText, ContinueMeans, end_status}
-use Rattle.debug_variants.specs.VariantsOutcomes.{Place, ArePlaces, IsPlaceBehind, IsVariantsText, VariantsMean, variants_text}
-use Rattle.debug_judge.specs.JudgeOutcomes.{IsOtherVerdictText}
+use Rattle.debug_variants.specs.ContinueOutcomes.{CouldBeTooMany, FitsAndGoesOn, GoesOnFrom, IsContinuedText, ContinueMeans, end_status}
+use Rattle.debug_variants.specs.VariantsOutcomes.{VariantsMean, VariantsOf}
+use Rattle.debug_variants.proofs.OneOutcome.{one_variants_text}
 use Rattle.debug_core.specs.ChoiceTexts.{Choosing, FromList, FromSeed}
 use Rattle.debug_core.specs.ChosenEvents.{GoesOnBy, GoesOnUnder}
 use Rattle.debug_core.proofs.OneJudged.{one_verdict_text}
 use Rattle.debug_core.proofs.OneRun.{one_by_choices}
 use Rattle.debug_core.proofs.ShortNumbers.{are_short}
 
--- lists of one length are the same where what is so at each place is so of one thing
-same_by_place : {A : Type 0} (P : ℕ → A → Type 0) → ((k : ℕ) (x y : A) → P k x → P k y → x ≡ y) → (xs ys : List A) → length xs ≡ length ys →
-    ((k : ℕ) (x : A) → slice_get xs k ≡ Some x → P k x) → ((k : ℕ) (y : A) → slice_get ys k ≡ Some y → P k y) → xs ≡ ys
-same_by_place P one [] [] e h l = refl
-same_by_place P one [] (y ∷ ys) e h l = absurd (omega (arith, e))
-same_by_place P one (x ∷ xs) [] e h l = absurd (omega (arith, e))
-same_by_place P one (x ∷ xs) (y ∷ ys) e h l =
-    ap₂ (λ a b. a ∷ b) (one 0 x y (h 0 x refl) (l 0 y refl))
-    (same_by_place (λ k. P (suc k)) (λ k. one (suc k)) xs ys (omega (arith, e)) (λ k z at. h (suc k) z at) (λ k z at. l (suc k) z at))
-
 -- ---- what is told of events
 
 module _ (setup : ProgramWithInputs) (numbers : Numbering) (bound : ℕ) (events : List Event) where
-  one_place : (k : ℕ) (x y : Place) → IsPlaceBehind setup numbers bound events k x → IsPlaceBehind setup numbers bound events k y → x ≡ y
-  one_place k x y h l =
-      ap₂ (λ (found : List Event) (unsettled : List ℕ). record { found = found; unsettled = unsettled })
-      (one_found setup numbers bound (take k events) (slice_get events k) x.found y.found x.unsettled y.unsettled h l)
-      (one_unsettled setup numbers bound (take k events) (slice_get events k) x.found y.found x.unsettled y.unsettled h l)
-
-  one_variants_text : (o q : Outcome) → IsVariantsText setup numbers bound events o → IsVariantsText setup numbers bound events q → o ≡ q
-  one_variants_text o q h k =
-      h.is
-      ∙ ap (λ (places : List Place). writes (variants_text events places) 0)
-      (same_by_place (IsPlaceBehind setup numbers bound events) one_place h.places k.places (h.are.count ∙ sym k.are.count) h.are.each k.are.each)
-      ∙ sym k.is
-
-  one_told : (o q : Outcome) → IsVariantsText setup numbers bound events o ⊎ IsOtherVerdictText setup numbers bound events o → IsVariantsText setup numbers bound events q ⊎ IsOtherVerdictText setup numbers bound events q → o ≡ q
-  one_told o q (inl h) (inl k) = one_variants_text o q h k
+  one_told : (o q : Outcome) → VariantsOf setup numbers bound events o → VariantsOf setup numbers bound events q → o ≡ q
+  one_told o q (inl h) (inl k) = one_variants_text setup numbers bound events o q h k
   one_told o q (inl h) (inr k) = absurd (k.other h.feasible)
   one_told o q (inr h) (inl k) = absurd (h.other k.feasible)
   one_told o q (inr h) (inr k) = one_verdict_text setup numbers bound events o q h.judged k.judged
@@ -72,8 +48,8 @@ module _ (setup : ProgramWithInputs) (numbers : Numbering) (bound : ℕ) (events
         ∙ ap₂ (λ (chosen : List Event) (end : GoEnd). writes (SeqText setup.program.names numbers (events ++ chosen)) (end_status end)) same.0 same.1
         ∙ sym k.is
 
-    one_going_on : (o q : Outcome) → IsContinuedText word next setup numbers bound events chooser count o ⊎ IsOtherVerdictText setup numbers bound events o →
-        IsContinuedText word next setup numbers bound events chooser count q ⊎ IsOtherVerdictText setup numbers bound events q → o ≡ q
+    one_going_on : (o q : Outcome) → GoesOnFrom word next setup numbers bound events chooser count o →
+        GoesOnFrom word next setup numbers bound events chooser count q → o ≡ q
     one_going_on o q (inl h) (inl k) = one_continued_text o q h k
     one_going_on o q (inl h) (inr k) = absurd (k.other h.feasible)
     one_going_on o q (inr h) (inl k) = absurd (h.other k.feasible)
@@ -104,7 +80,7 @@ module _ (setup : ProgramWithInputs) (numbers : Numbering) (placed : IsWellPlace
   pub one_varied : (bound : ℕ) (o q : Outcome) → VariantsMean setup numbers lines bound o → VariantsMean setup numbers lines bound q → o ≡ q
   one_varied bound o q (inl h) (inl k) =
       one_told setup numbers bound k.events o q
-      (subst (λ (es : List Event). IsVariantsText setup numbers bound es o ⊎ IsOtherVerdictText setup numbers bound es o) (same h.events k.events h.reads k.reads) h.told) k.told
+      (subst (λ (es : List Event). VariantsOf setup numbers bound es o) (same h.events k.events h.reads k.reads) h.told) k.told
   one_varied bound o q (inl h) (inr k) = absurd (read_or_refused setup.program.names numbers short upper lists lines h.events q h.reads k)
   one_varied bound o q (inr h) (inl k) = absurd (read_or_refused setup.program.names numbers short upper lists lines k.events o k.reads h)
   one_varied bound o q (inr h) (inr k) = one_refused setup.program.names numbers short upper lists lines o q h k
