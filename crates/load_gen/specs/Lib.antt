@@ -1,0 +1,3 @@
+pub mod LoadTree
+pub mod LoadNumbers
+pub mod Promised
