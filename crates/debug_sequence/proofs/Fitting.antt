@@ -41,24 +41,24 @@ module _ (owner : ℕ → ℕ) where
   -- nor does it in the list of a task
   split_end : (k : Known) (events : List Event) (t : ℕ) → NothingFollowsEnd events → NothingFollowsEnd (split owner k events t)
   split_end k [] t h = tt
-  split_end k (e ∷ events) t h = go (touches owner k e t)
+  split_end k (e ∷ events) t h = go (touches owner k e t) (split_end (advanced owner k e) events t h.1)
     where
-      go : (b : Bool) → NothingFollowsEnd (if b then e ∷ split owner (advanced owner k e) events t else split owner (advanced owner k e) events t)
-      go true = ((λ is. ap (λ es. split owner (advanced owner k e) es t) (h.0 is)), split_end (advanced owner k e) events t h.1)
-      go false = split_end (advanced owner k e) events t h.1
+      behind : List Event
+      behind = split owner (advanced owner k e) events t
+
+      go : (b : Bool) → NothingFollowsEnd behind → NothingFollowsEnd (if b then e ∷ behind else behind)
+      go true more = ((λ is. ap (λ es. split owner (advanced owner k e) es t) (h.0 is)), more)
+      go false more = more
 
   -- ---- what holds of each event
 
   split_all : (P : Event → Type 0) (k : Known) (events : List Event) (t : ℕ) → All P events → All P (split owner k events t)
   split_all P k [] t h = h
-  split_all P k (e ∷ events) t h = go (touches owner k e t)
+  split_all P k (e ∷ events) t h = go (touches owner k e t) (split owner (advanced owner k e) events t) (split_all P (advanced owner k e) events t (All-tail P e events h))
     where
-      behind : All P (split owner (advanced owner k e) events t)
-      behind = split_all P (advanced owner k e) events t (All-tail P e events h)
-
-      go : (b : Bool) → All P (if b then e ∷ split owner (advanced owner k e) events t else split owner (advanced owner k e) events t)
-      go true = All-cons P e (split owner (advanced owner k e) events t) (All-head P e events h) behind
-      go false = behind
+      go : (b : Bool) (behind : List Event) → All P behind → All P (if b then e ∷ behind else behind)
+      go true behind more = All-cons P e behind (All-head P e events h) more
+      go false behind more = more
 
   first_holds : (P : Event → Type 0) (events : List Event) (e : Event) → first events ≡ Some e → All P events → P e
   first_holds P [] e q h = absurd (not_missing e q)

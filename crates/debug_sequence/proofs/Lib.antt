@@ -1,6 +1,7 @@
 pub mod Fitting
+pub mod Listing
 pub mod Sequences
-pub mod Stopping
+pub mod Written
 pub mod Placed
 pub mod Found
 pub mod Called

@@ -1,5 +1,5 @@
 -- Migrating a file comes to one outcome.
-use Rattle.std.proofs.Common.{◌≡◌, ℕ, zero, suc, ◌-◌, ◌<◌, ◌≤◌, ◌+◌, ◌⊎◌, true, List, [], ◌∷◌, length, take, inl, inr, refl, sym, ap, ◌∙◌, subst, arith}
+use Rattle.std.proofs.Common.{◌≡◌, ℕ, zero, suc, ◌-◌, ◌<◌, ◌≤◌, ◌+◌, ◌⊎◌, true, List, [], ◌∷◌, length, take, inl, inr, sym, ap, ◌∙◌, subst, arith}
 use Rattle.std.proofs.lemmas.Bool.{cases_order}
 use Rattle.std.proofs.lemmas.List.{take-take}
 use Rattle.common_lemmas.proofs.Truth.{clash}
@@ -7,7 +7,7 @@ use Rattle.event_machine.specs.declared.Event.{Event}
 use Rattle.event_machine.specs.progress.Known.{Known, known_at_start, advanced}
 use Rattle.syn_event.specs.Numbering.{Numbering, owner_of}
 use Rattle.syn_event.specs.DeclaredTasks.{text_of}
-use Rattle.seq_file.specs.Files.{SeqReads, SeqText}
+use Rattle.seq_file.specs.Files.{SeqText}
 use Rattle.seq_file.specs.Lines.{is_upper_name}
 use Rattle.seq_file.specs.Lists.{ListText, list_count, listed, most_listed}
 use Rattle.seq_file.specs.Short.{IsShort}
@@ -17,7 +17,6 @@ use Rattle.syn_order.specs.Refusals.{IsFirstRefused}
 use Rattle.debug_outcome.specs.Outcomes.{Outcome, writes, refuses}
 use Rattle.debug_outcome.specs.declared.refusal.Refusal.TheVariants.{BadSequence}
 use Rattle.debug_outcome.specs.declared.refusal.SequenceFault.TheVariants.{BadOrder}
-use Rattle.debug_sequence.specs.Sequences.{ReadsAs}
 use Rattle.debug_sequence.specs.MigrateOutcomes.{AreListsOf, AreSplit, Migrates}
 use Rattle.debug_sequence.proofs.Sequences.{reads_one, reads_by_tasks, reads_as_unique, read_or_refused, one_refused}
 

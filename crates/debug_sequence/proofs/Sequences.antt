@@ -1,5 +1,5 @@
 -- A file of either format stands for one sequence or is refused with one outcome, and never both. Its events may stand in a file of one list.
-use Rattle.std.proofs.Common.{◌≡◌, ℕ, ◌<◌, ◌≤◌, true, false, List, length, inl, inr, refl, sym, ap, ◌∙◌, subst, arith}
+use Rattle.std.proofs.Common.{◌≡◌, ℕ, ◌<◌, ◌≤◌, true, false, List, length, inl, inr, sym, ap, ◌∙◌, subst, arith}
 use Rattle.common_lemmas.proofs.Truth.{clash}
 use Rattle.event_machine.specs.declared.Event.{Event}
 use Rattle.syn_event.specs.Numbering.{Numbering, owner_of}
@@ -20,7 +20,7 @@ use Rattle.debug_outcome.specs.declared.refusal.Refusal.TheVariants as refusal
 use Rattle.debug_outcome.specs.sequences.BadSequences.{IsBadLists, refusal_of_sequence}
 use Rattle.debug_outcome.proofs.Comings.{one_refusal}
 use Rattle.debug_outcome.proofs.sequences.Telling.{one_bad_sequence, read_or_bad}
-use Rattle.debug_sequence.specs.Sequences.{AreInOrder, ReadsAs, ReadsAsLists, AreNotJoined, AreReadNotJoined, AreRefusedLists, IsRefusedSequence}
+use Rattle.debug_sequence.specs.Sequences.{AreInOrder, ReadsAs, ReadsAsLists, AreNotJoined, AreRefusedLists, IsRefusedSequence}
 use Rattle.debug_sequence.proofs.Fitting.{order_fits}
 
 -- ---- formats

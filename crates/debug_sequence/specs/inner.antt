@@ -1,2 +1,3 @@
 pub mod Failing
+pub mod Joining
 pub mod Placing

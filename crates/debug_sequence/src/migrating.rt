@@ -14,7 +14,7 @@ use crate::reading::read_sequence;
 use ada_tree::Names;
 use debug_outcome::{Listed, Refusal, SequenceFault, Stop};
 use ded_io::Sink;
-use seq_file::{TaskLists, is_in_lists, write_lists, write_seq};
+use seq_file::{is_in_lists, write_lists, write_seq};
 use std::alloc::Global;
 use syn_event::{Event, Numbers};
 use syn_order::{OrderError, split};
@@ -30,7 +30,7 @@ const MIGRATED: u8 = 0;
 /// The bytes are for the program of these names and numbers, whose tasks are all the original's. Bytes that stand for no sequence are refused as the
 /// reader of sequences refuses them. Events of one list of which one is not admitted by those before it are refused at its line, and lists with more
 /// event lines than a file may have are refused by that limit. The whole sequence is kept until the first line is written, so that want of memory comes
-/// before it. It takes time in step with the lines of both files.
+/// before it. It takes time in step with the lines of both files, and with the tasks of the program for each event at most.
 pub fn migrate<'w, K: Sink>(
     alloc: Global,
     names: &Names,

@@ -1,14 +1,15 @@
 // Reading the sequence for which a file stands, in either format.
 
-ghost use Rattle.std.specs.Prelude.{◌≡◌, ◌≤◌, ◌<◌, ◌-◌, ◌^◌, length, true, IfOk, IfErr};
+ghost use Rattle.std.specs.Prelude.{◌≡◌, ◌<◌, ◌-◌, ◌^◌, length, true, IfOk, IfErr};
 ghost use Rattle.syn_event.specs.DeclaredTasks.{text_of};
-ghost use Rattle.seq_file.specs.Files.{most_events, AreFit, SeqReads};
+ghost use Rattle.seq_file.specs.Files.{AreFit, SeqReads};
 ghost use Rattle.seq_file.specs.Lines.{is_upper_name};
 ghost use Rattle.seq_file.specs.Lists.{list_count};
 ghost use Rattle.debug_outcome.specs.Coming.{Stops, stop_by};
 ghost use Rattle.debug_outcome.specs.sequences.BadSequences.{IsBadSequence};
-ghost use Rattle.debug_sequence.specs.Sequences.{AreInOrder, AreNotJoined, AreRefusedLists, IsRefusedSequence, ReadsAs, ReadsAsLists};
+ghost use Rattle.debug_sequence.specs.Sequences.{AreNotJoined, AreRefusedLists, IsRefusedSequence, ReadsAs, ReadsAsLists};
 ghost use Rattle.debug_sequence.specs.inner.Failing.{refusal_of_join};
+ghost use Rattle.debug_sequence.specs.inner.Joining.{IsShortOrder};
 
 use ada_tree::Names;
 use debug_outcome::sequences::sequence_failure;
@@ -89,8 +90,7 @@ fn read_joined<'w>(
 // The order of the lists, if it has no more events than a file of one list may have.
 fn join_few<'w>(alloc: Global, lists: &TaskLists, numbers: &Numbers) -> Result<Vec<Event>, Stop<'w>>
     requires { length lists.now ≡ length numbers.now.tasks }
-    ensures order { IfOk result (λ events. AreInOrder numbers.now lists.now events.items) }
-    ensures few { IfOk result (λ events. length events.items ≤ most_events) }
+    ensures order { IfOk result (λ events. IsShortOrder numbers.now lists.now events.items) }
     ensures refused { IfErr result (Stops (AreNotJoined numbers.now lists.now)) }
 {
     let events = match join(alloc, lists, numbers) {
