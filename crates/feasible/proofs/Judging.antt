@@ -195,10 +195,10 @@ module _ (setup : ProgramWithInputs) (numbers : Numbering) (bound : ℕ) where
         seat_of tasks' t ≡ seat_of tasks t
     unchanged_kept e tasks' h acts t same = ap (λ (g : ℕ → Seat Task). g t) (acted_kept e tasks' h acts) ∙ unchanged m e kept t same
 
-    -- A live task has the callers of its base.
-    pub callers_kept : (t : ℕ) → (kept t).standing ≡ Live → task_ops.callers (kept t).local ≡ task_ops.callers (k.bases.tasks t).local
-    callers_kept t free = ap task_ops.callers (k.follows.each t).local ∙
-        (ran_keeps (k.follows.each t).steps (k.bases.tasks t).local (base.sound.proper t (ap is_closed (sym (k.follows.each t).standing ∙ free))) (k.follows.each t).has_steps).1
+    -- A live task that has run on has the callers that it had.
+    pub callers_run : (tasks' : Tasks) (steps' : List ℕ) → HaveRun bound tasks steps tasks' steps' → (t : ℕ) → (kept t).standing ≡ Live → task_ops.callers (seat_of tasks' t).local ≡ task_ops.callers (kept t).local
+    callers_run tasks' steps' r t free =
+        ap task_ops.callers (r.each t).state ∙ (ran_keeps (r.each t).more (kept t).local (sound.proper t (ap is_closed free)) (r.each t).made).1
 
     pub keeps_event : (e : Event) (tasks' : Tasks) (steps' : List ℕ) → happens m kept e ≡ true → tasks' ≡ acted (rules_of numbers) tasks e → AreRecounted numbers tasks e steps steps' →
         AreKept setup numbers bound (events ++ e ∷ []) tasks' steps' (is_last e || ended)

@@ -8,4 +8,4 @@ pub mod Seeing
 pub mod Resting
 pub mod Rested
 pub mod Fronts
-pub mod Laws
+pub mod JudgeLaws

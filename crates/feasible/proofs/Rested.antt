@@ -29,7 +29,7 @@ use Rattle.feasible.specs.Kept.{Kept}
 use Rattle.feasible.specs.Rested.{HaveRested, is_changed}
 use Rattle.feasible.proofs.Asking.{asked_all}
 use Rattle.feasible.proofs.Resting.{kept_all}
-use Rattle.feasible.proofs.Judging.{keeps_run, happens_here, unchanged_kept, callers_kept}
+use Rattle.feasible.proofs.Judging.{keeps_run, happens_here, unchanged_kept, callers_run}
 use Rattle.feasible.proofs.Running.{settled_stays}
 
 -- ---- those that the event needs
@@ -80,8 +80,7 @@ module _ (setup : ProgramWithInputs) (numbers : Numbering) (bound : ℕ) (events
 
   same_callers : (t : ℕ) → is_live (seat_of found t).standing ≡ true → task_ops.callers (seat_of found t).local ≡ task_ops.callers (seat_of tasks t).local
   same_callers t free =
-      let is = is-Live (seat_of found t).standing free in
-      callers_kept setup numbers bound events found counted ended more on t is ∙ sym (callers_kept setup numbers bound events tasks steps ended more k t (sym (run.standing t) ∙ is))
+      callers_run setup numbers bound events tasks steps ended more k found counted run t (sym (run.standing t) ∙ is-Live (seat_of found t).standing free)
 
   -- A settled task that the event does not change stays settled.
   others_leave : (tasks' : Tasks) (steps' : List ℕ) (v : Verdict) → Leaves numbers bound taken e found counted tasks' steps' v → (t : ℕ) → IsSettled tasks t →

@@ -5,11 +5,11 @@
 mod conditions;
 mod happening;
 mod judge;
-mod laws;
+mod judge_laws;
 mod settling;
 mod showing;
 
 pub use judge::{Judge, judge_all};
-pub use laws::laws;
+pub use judge_laws::laws;
 pub use showing::TaskView;
 pub use task_machine::{Cause, Verdict, Why};

@@ -7,10 +7,10 @@ mod adding;
 mod asking;
 mod continuing;
 mod finding;
-mod laws;
 mod proposing;
 mod seeing;
+mod variant_laws;
 
 pub use continuing::{GoEnd, go_on};
 pub use finding::variants;
-pub use laws::laws;
+pub use variant_laws::laws;

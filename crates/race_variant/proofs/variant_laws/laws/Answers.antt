@@ -1,6 +1,6 @@
 use Rattle.race_variant.proofs.Continued.{one_goes_on, stays_feasible, stays_fit, ends_at_once}
 use Rattle.race_variant.proofs.Knowing.{variants_known}
-use Rattle.race_variant.proofs.laws.laws.Goals as goal
+use Rattle.race_variant.proofs.variant_laws.laws.Goals as goal
 
 pub returns-clause-known : goal.returns-clause-known
 returns-clause-known g c = variants_known

@@ -1,5 +1,5 @@
-use Rattle.feasible.proofs.Laws.{away_settled, verdict_each}
-use Rattle.feasible.proofs.laws.laws.Goals as goal
+use Rattle.feasible.proofs.JudgeLaws.{away_settled, verdict_each}
+use Rattle.feasible.proofs.judge_laws.laws.Goals as goal
 
 pub returns-clause-away : goal.returns-clause-away
 returns-clause-away c = away_settled
