@@ -1,5 +1,5 @@
 -- What a task offers where it stands is known, by what is known of the statements there.
-use Rattle.std.proofs.Common.{◌≡◌, ◌<◌, ◌≤◌, ◌+◌, ℕ, Bool, true, false, ◌&&◌, nat_lt, nat_le, if◌then◌else◌, List, [], ◌∷◌, ◌++◌, Option, Some, None, Result, Ok, Err, refl, sym, ap, ◌∙◌, subst, arith}
+use Rattle.std.proofs.Common.{◌≡◌, ◌<◌, ◌≤◌, ◌+◌, ℕ, Bool, true, false, nat_lt, nat_le, if◌then◌else◌, List, [], ◌∷◌, ◌++◌, Option, Some, None, Result, Ok, Err, refl, ◌∙◌, subst, arith}
 use Rattle.std.specs.List.{AllByRecursion, list_all, list_any, filter_map, cons_option}
 use Rattle.std.proofs.lemmas.Bool.{and_from}
 use Rattle.std.proofs.lemmas.List.Folds.{list_all-append}
@@ -21,7 +21,7 @@ use Rattle.task_model.specs.Frames.{Around, OwnBody, Block, Handling, Loop, Open
 use Rattle.task_model.specs.Tasks.{Task, rest_of, place_of, vars_of, stmts_or_none}
 use Rattle.task_model.specs.Calls.{Called, called}
 use Rattle.task_model.specs.Waits.{Open, Accepts, Delays, Terminates, guard_holds, accept_opened, kind_opened, opened_if, delays_with, alternatives_open, open_at, accept_choice, is_shorter, delay_choice, terminate_choice, else_choice, choices_of, is_present}
-use Rattle.task_model.specs.Stands.{Stand, Steps, Raises, At, stand_at, stand_behind, stand_with, offered, offer_of, call_stand, choices_stand, wait_stand, name_stand, abort_stand}
+use Rattle.task_model.specs.Stands.{Stand, stand_at, stand_behind, stand_with, offered, offer_of, call_stand, choices_stand, wait_stand, name_stand, abort_stand}
 use Rattle.task_laws.specs.statements.Each.{Loops, InStmts, HoldsOf}
 use Rattle.task_laws.proofs.invariants.Variables.{chain, ok_path}
 use Rattle.task_laws.proofs.statements.Steps.{around}
@@ -62,17 +62,15 @@ few-alternatives : (t : Task) (alts : PAlts) (n : ℕ) (os : List Open) → dela
 few-alternatives t no_alt n os low q = subst AllFew (ok_path q) tt
 few-alternatives t (alt_then (alternative guard what s) rest) n os low q =
     let c = chain (guard_holds t guard) (λ b. opened_if b (kind_opened t what n) (alternatives_open t rest (delays_with what n))) os q in
-    by_test c.value c.rest
+    by_test c.value c.rest (λ ps r. few-alternatives t rest (delays_with what n) ps low r)
   where
-    later : (ps : List Open) → alternatives_open t rest (delays_with what n) ≡ Ok ps → AllFew ps
-    later ps r = few-alternatives t rest (delays_with what n) ps low r
-
     here : delays_with what n ≤ 32
     here = let a : delays_with what n ≤ delays_behind rest (delays_with what n) = at-least rest (delays_with what n) in omega (arith, a, low)
 
-    by_test : (b : Bool) → opened_if b (kind_opened t what n) (alternatives_open t rest (delays_with what n)) ≡ Ok os → AllFew os
-    by_test false r = later os r
-    by_test true r =
+    by_test : (b : Bool) → opened_if b (kind_opened t what n) (alternatives_open t rest (delays_with what n)) ≡ Ok os →
+        ((ps : List Open) → alternatives_open t rest (delays_with what n) ≡ Ok ps → AllFew ps) → AllFew os
+    by_test false r later = later os r
+    by_test true r later =
         let c = chain (kind_opened t what n) (λ o. and_then (alternatives_open t rest (delays_with what n)) (λ ps. Ok (o ∷ ps))) os r in
         let d = chain (alternatives_open t rest (delays_with what n)) (λ ps. Ok (c.value ∷ ps)) os c.rest in
         subst AllFew (ok_path d.rest) (few-kind t what n c.value here c.first, later d.value d.first)
@@ -87,11 +85,11 @@ few-accept t (accepting head stmts) s os q =
 known-filtered : (f : Open → Option Choice) → ((o : Open) (c : Choice) → IsFew o → f o ≡ Some c → is_known_choice c ≡ true) → (os : List Open) → AllFew os →
     list_all is_known_choice (filter_map f os) ≡ true
 known-filtered f each [] h = refl
-known-filtered f each (o ∷ os) h = by_choice (f o) refl
+known-filtered f each (o ∷ os) h = by_choice (f o) refl (known-filtered f each os h.1)
   where
-    by_choice : (c : Option Choice) → f o ≡ c → list_all is_known_choice (cons_option c (filter_map f os)) ≡ true
-    by_choice None e = known-filtered f each os h.1
-    by_choice (Some c) e = and_from (is_known_choice c) (list_all is_known_choice (filter_map f os)) (each o c h.0 e) (known-filtered f each os h.1)
+    by_choice : (c : Option Choice) → f o ≡ c → list_all is_known_choice (filter_map f os) ≡ true → list_all is_known_choice (cons_option c (filter_map f os)) ≡ true
+    by_choice None e later = later
+    by_choice (Some c) e later = and_from (is_known_choice c) (list_all is_known_choice (filter_map f os)) (each o c h.0 e) later
 
 known-accept : (o : Open) (c : Choice) → IsFew o → accept_choice o ≡ Some c → is_known_choice c ≡ true
 known-accept (Accepts e i head body behind) c h q = subst (λ x. is_known_choice x ≡ true) (some_same q) refl

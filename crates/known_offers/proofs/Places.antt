@@ -1,11 +1,10 @@
 -- Calls and callees at the places of a legal program come to members and tasks that there are (9.5, 9.10).
-use Rattle.std.proofs.Common.{◌≡◌, ◌<◌, ℕ, suc, true, false, ◌&&◌, List, [], ◌∷◌, length, map, option_map, unwrap_or, find, Option, Some, None, Result, Ok, Err, refl, sym, ap, ◌∙◌, subst, arith}
+use Rattle.std.proofs.Common.{◌≡◌, ◌<◌, ℕ, true, [], ◌∷◌, length, option_map, unwrap_or, Option, Some, None, Ok, refl, sym, ap, ◌∙◌, subst, arith}
 use Rattle.std.specs.Prelude.{IfSome, nat_lt, not, ◌==◌}
 use Rattle.std.specs.List.{AllByRecursion}
 use Rattle.std.proofs.lemmas.Bool.{and_from, lt-ltb, not-false}
 use Rattle.std.proofs.lemmas.Option.{none-some, slice_get_within}
-use Rattle.common_lemmas.proofs.Lists.{all_back, all_front}
-use Rattle.ada_tree.specs.declared.naming.NameId.{NameId}
+use Rattle.common_lemmas.proofs.Lists.{all_back}
 use Rattle.ada_tree.specs.TypeTable.{TypeTable}
 use Rattle.ada_tree.specs.PlainExpr.{PExpr, PDrange}
 use Rattle.ada_tree.specs.PlainStmt.{PCallee, PCall}
@@ -25,7 +24,7 @@ use Rattle.ada_value.specs.Values.{and_then, position_of}
 use Rattle.ada_value.specs.Variables.{Variables}
 use Rattle.ada_value.specs.Evaluating.{evaluated}
 use Rattle.task_model.specs.Setting.{entry_of, entry_parameters, lists_of, member_index, member_named, task_meant, callee_task}
-use Rattle.task_model.specs.Calls.{Called, called, called_with, openings}
+use Rattle.task_model.specs.Calls.{Called, called_with, openings}
 use Rattle.task_laws.proofs.invariants.Variables.{chain, ok_path}
 use Rattle.legal_programs.specs.sites.Met.{IsMet}
 use Rattle.legal_programs.specs.types.Typed.{HasLimits, IsTypedEntry, IsTypedTask}

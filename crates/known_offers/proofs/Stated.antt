@@ -1,5 +1,5 @@
 -- What is known of the statements of a unit, wherever they stand.
-use Rattle.std.proofs.Common.{◌≡◌, ◌<◌, ◌≤◌, ◌+◌, ℕ, ℤ, Bool, true, false, ◌&&◌, nat_lt, nat_le, if◌then◌else◌, List, [], ◌∷◌, length, Some, refl, true≢false, arith}
+use Rattle.std.proofs.Common.{◌≡◌, ◌<◌, ◌≤◌, ◌+◌, ℕ, ℤ, Bool, true, false, ◌&&◌, nat_lt, nat_le, List, [], ◌∷◌, length, Some, refl, true≢false, arith}
 use Rattle.std.specs.List.{AllByRecursion}
 use Rattle.std.proofs.lemmas.Bool.Decides.{nat_tests}
 use Rattle.ada_tree.specs.declared.naming.Span.{Span}
@@ -15,7 +15,7 @@ use Rattle.syn_event.proofs.Nothing.{test_fails}
 use Rattle.task_model.specs.Starting.{unit_of}
 use Rattle.task_model.specs.Waits.{delays_with}
 use Rattle.task_laws.specs.statements.Each.{Loops, InParts, InStmts, InMaybe, InAlts, InAltKind, InArms, InCaseArms, InBody, InHandlers}
-use Rattle.task_laws.specs.translation.OldTexts.{Asked, OldCallees, old_no_callee, old_callee, OldStmt, old_null, old_assign, old_delay, old_exit, old_raise, old_abort, old_call, old_accept, old_wait, old_conditional, old_timed, old_put, old_put_line, old_new_line, old_get, old_if, old_case, old_block, old_loop, OldStmts, old_no_stmt, old_stmt, OldMaybe, old_absent, old_present, OldAlts, old_no_alt, old_alt, OldKind, old_accepts, old_delays, old_terminates, OldArms, old_no_arm, old_arm, OldCaseArms, old_no_case_arm, old_case_arm, OldHandlers, old_no_handler, old_handler, OldBody, old_body}
+use Rattle.task_laws.specs.translation.OldTexts.{Asked, OldCallees, old_callee, OldStmt, old_abort, old_call, old_accept, old_wait, old_conditional, old_timed, old_if, old_case, old_block, old_loop, OldStmts, old_stmt, OldMaybe, old_present, OldAlts, old_alt, OldKind, old_accepts, old_delays, OldArms, old_arm, OldCaseArms, old_case_arm, OldHandlers, old_handler, OldBody, old_body}
 use Rattle.legal_programs.specs.asked.Asked.{AskedStmt}
 use Rattle.legal_programs.specs.asked.Kinds.{check_asks}
 use Rattle.legal_programs.specs.sites.Met.{IsCheckMet}

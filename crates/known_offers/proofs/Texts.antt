@@ -1,5 +1,5 @@
 -- The statements of each unit of a legal program, with their calls, callees and accepts known.
-use Rattle.std.proofs.Common.{◌≡◌, ◌<◌, ℕ, zero, suc, Bool, true, false, ◌||◌, not, cond, nat_lt, if◌then◌else◌, ℤ, List, [], ◌∷◌, ◌++◌, length, map, slice_get, Option, Some, None, refl, sym, ap, ◌∙◌, subst, true≢false, append-nil, arith}
+use Rattle.std.proofs.Common.{◌≡◌, ◌<◌, ◌+◌, ℕ, zero, suc, Bool, true, false, ◌||◌, not, cond, nat_lt, if◌then◌else◌, ℤ, List, [], ◌∷◌, ◌++◌, Option, Some, None, refl, sym, ap, ◌∙◌, subst, true≢false, arith}
 use Rattle.std.specs.Prelude.{◌==◌, count_by}
 use Rattle.std.specs.List.{AllByRecursion}
 use Rattle.std.proofs.lemmas.Bool.{or_left, ne_eqb}
@@ -13,7 +13,7 @@ use Rattle.ada_tree.specs.PlainDecl.{PTask, no_decl}
 use Rattle.ada_tree.specs.PlainProgram.{PProgram}
 use Rattle.ada_static_rules.specs.Scope.{Scope}
 use Rattle.ada_static_rules.specs.Demand.{Site}
-use Rattle.ada_static_rules.specs.Sites.{names_sites, callee_sites, call_sites, head_sites, body_sites, decls_sites, sites}
+use Rattle.ada_static_rules.specs.Sites.{names_sites, callee_sites, call_sites, body_sites, decls_sites, sites}
 use Rattle.ada_static_rules.specs.Declaring.{before_all, first_scope, inner_scope, after_decls}
 use Rattle.ada_static_rules.specs.Refusals.{types_in}
 use Rattle.syn_event.specs.declared.numbering.Mode.TheVariants as mode
@@ -25,7 +25,7 @@ use Rattle.syn_event.specs.DeclaredTasks.{tasks_of}
 use Rattle.syn_event.specs.Numbering.{task_at}
 use Rattle.syn_event.specs.RuleAcceptPlace.{accept_place, is_own_entry, is_among}
 use Rattle.syn_event.specs.RuleSelectForm.{alt_kinds, is_accept, is_terminate, kinds_count, is_malformed}
-use Rattle.task_model.specs.Starting.{Unit, unit_of, unit_of_info, unit_among}
+use Rattle.task_model.specs.Starting.{unit_of, unit_of_info, unit_among}
 use Rattle.task_laws.specs.translation.Translations.{Programs}
 use Rattle.task_laws.specs.translation.OldTexts.{Asked, OldBody, old_body, old_no_stmt, old_no_handler}
 use Rattle.normal_structure.proofs.entries.Entries.{g}
@@ -60,10 +60,14 @@ HasAccept (alt_then (alternative g (AAccept a l) s) rest) = Prim.Unit {0}
 HasAccept (alt_then (alternative g (ADelay d l) s) rest) = HasAccept rest
 HasAccept (alt_then (alternative g ATerminate s) rest) = HasAccept rest
 
+abbrev one-if : Bool → ℕ
+one-if b = cond b 1 0
+
 accepts-counted : (x : PAltKind) (xs : List PAltKind) → is_accept x ≡ false → count_by is_accept (x ∷ xs) ≡ count_by is_accept xs
 accepts-counted x xs e =
-    let c : cond (is_accept x) 1 0 ≡ 0 = ap (λ (b : Bool). cond b 1 0) e in
-    sum_by-cons (λ (k : PAltKind). cond (is_accept k) 1 0) x xs ∙ omega (arith, c)
+    let c : one-if (is_accept x) ≡ 0 = ap one-if e in
+    let k : count_by is_accept (x ∷ xs) ≡ one-if (is_accept x) + count_by is_accept xs = sum_by-cons (λ (k : PAltKind). one-if (is_accept k)) x xs in
+    omega (arith, c, k)
 
 accept-there : (x : PAlts) → (count_by is_accept (alt_kinds x) == 0) ≡ false → HasAccept x
 accept-there no_alt e = absurd (true≢false e)

@@ -1,36 +1,31 @@
 -- Whatever has happened, what the tasks of a legal original offer is known.
-use Rattle.std.proofs.Common.{◌≡◌, ◌<◌, ◌≤◌, ◌+◌, ℕ, ℤ, Bool, true, false, List, [], ◌∷◌, length, slice_index_or, refl, sym, ap, ◌∙◌, subst, true≢false, ⊎_elim, arith}
+use Rattle.std.proofs.Common.{◌≡◌, ◌<◌, ◌≤◌, ℕ, ℤ, true, List, length, slice_index_or, refl, sym, ap, ◌∙◌, subst, true≢false, ⊎_elim}
 use Rattle.std.proofs.lemmas.Bool.{cases_lt}
 use Rattle.common_lemmas.proofs.Numbers.{lt_true}
 use Rattle.ada_tree.specs.PlainProgram.{PProgram}
 use Rattle.ada_static_rules.specs.Refusals.{types_in}
 use Rattle.event_machine.specs.declared.Event.{Event}
-use Rattle.event_machine.specs.declared.Standing.{Standing}
 use Rattle.event_machine.specs.declared.Standing.TheVariants.{Live}
-use Rattle.event_machine.specs.Lawful.{IsLawful}
 use Rattle.event_machine.specs.Laws.{IsErased}
 use Rattle.event_machine.specs.Offers.{Offer}
 use Rattle.event_machine.specs.Programs.{Program, IsOpening, by_number, numbered}
-use Rattle.event_machine.specs.Soundness.{IsSound}
 use Rattle.event_machine.specs.States.{Seat, State, live, completed, is_closed, is_completed}
 use Rattle.event_machine.specs.Tallies.{ComesTo, before_end}
-use Rattle.event_machine.specs.Worlds.{World, still_seat, world_of, world_after}
+use Rattle.event_machine.specs.Worlds.{World, still_seat, world_after}
 use Rattle.event_machine.proofs.Bases.{IsBase, base_leads}
 use Rattle.event_machine.proofs.Erasing.{erasing}
 use Rattle.event_machine.proofs.Joining.{joined}
 use Rattle.event_machine.proofs.ListLaws.{sound_list, led_list, opening_numbers}
 use Rattle.event_machine.proofs.Reaching.{IsLed, start_base}
-use Rattle.syn_event.specs.Numbering.{Numbering, owner_of}
-use Rattle.seq_file.specs.Known.{is_task}
+use Rattle.syn_event.specs.Numbering.{owner_of}
 use Rattle.task_model.specs.Laws.{program_in, first_world}
-use Rattle.task_model.specs.Machine.{ProgramWithInputs, Tasks, rules_of, setting_of, opening_of, first_tasks}
+use Rattle.task_model.specs.Machine.{ProgramWithInputs, Tasks, rules_of, setting_of, opening_of}
 use Rattle.task_model.specs.Setting.{Setting}
 use Rattle.task_model.specs.Stands.{offer_of}
 use Rattle.task_model.specs.Starting.{nobody}
 use Rattle.task_model.specs.TaskOps.{task_ops}
 use Rattle.task_model.specs.Tasks.{Task}
 use Rattle.task_model.proofs.Following.{opens}
-use Rattle.task_machine.specs.Views.{At, ViewIs}
 use Rattle.task_laws.proofs.invariants.Beginning.{first, length_first, first_is}
 use Rattle.task_laws.proofs.statements.Carried.{starts-so}
 use Rattle.normal_runs.specs.forms.Normalisable.{numbers_of}

@@ -1,7 +1,7 @@
 -- What is known of each statement of a task, so that what the task offers at it is known (this project's rule).
-use Rattle.std.specs.Prelude.{◌≡◌, ◌<◌, ◌≤◌, ℕ, ◌+◌, true, List, [], Ok}
+use Rattle.std.specs.Prelude.{◌≡◌, ◌<◌, ◌≤◌, ℕ, true, Ok}
 use Rattle.std.specs.List.{AllByRecursion}
-use Rattle.ada_tree.specs.PlainStmt.{PCallee, PCall, PStmt, SAbort, SCall, SAccept, SWait, SConditional, STimed, PAlts, no_alt, alt_then, alternative, PAltKind, AAccept, ADelay, ATerminate}
+use Rattle.ada_tree.specs.PlainStmt.{PCallee, PCall, PStmt, SAbort, SCall, SAccept, SWait, SConditional, STimed, PAlts, no_alt, alt_then, alternative}
 use Rattle.ada_value.specs.Variables.{Variables}
 use Rattle.seq_file.specs.Known.{is_task_beside_main, is_known_member}
 use Rattle.task_model.specs.Setting.{Setting, callee_task}
