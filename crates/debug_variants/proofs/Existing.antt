@@ -195,7 +195,7 @@ module _ (setup : ProgramWithInputs) (numbers : Numbering) (bound : ℕ) (events
   viewed : (t : ℕ) → Viewed t
   viewed t = ⊎_elim
       (λ (k : t < length numbers.tasks).
-      let (v, is) = verdict_exists setup numbers bound events (event.E t) more in
+      let (v, is) = (verdict_exists setup numbers bound).1 events (event.E t) more in
       let (view, seen) = seen_by t v is in
       record { view = view; seen = seen; past = λ past. absurd (omega arith) })
       (λ (k : length numbers.tasks ≤ t). record {

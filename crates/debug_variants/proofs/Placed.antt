@@ -10,6 +10,15 @@ use Rattle.debug_outcome.specs.Outputs.{IsWritten, IsBrokenOff}
 use Rattle.debug_variants.specs.VariantsOutcomes.{Place, place_text}
 use Rattle.debug_variants.specs.inner.Placing.{HasPlace}
 
+-- what a write that went well has written, and one that failed
+pub done : (A E : Type 0) (x : A) (old new : Option (List ℕ)) (a : List ℕ) → Wrote {E = E} (Ok x) old new a → new ≡ appended old a
+unfolding Wrote
+done A E x old new a h = h
+
+pub begun : (A E : Type 0) (e : E) (old new : Option (List ℕ)) (a : List ℕ) → Wrote {A = A} (Err e) old new a → Began old new a
+unfolding Wrote
+begun A E e old new a h = h
+
 module _ (setup : ProgramWithInputs) (numbers : Numbering) (bound : ℕ) (events : List Event) (skip : Option Event) (number : ℕ) (found fs : List Event) (unsettled us : List ℕ) (told told' : Option (List ℕ)) (faults faults' : ℕ)
     (variants : AreVariants setup numbers bound events skip found unsettled) (same_found : fs ≡ found) (same_unsettled : us ≡ unsettled) where
   abbrev told_place : Place

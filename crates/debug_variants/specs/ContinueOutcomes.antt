@@ -7,6 +7,7 @@ use Rattle.task_model.specs.Machine.{ProgramWithInputs}
 use Rattle.task_machine.specs.declared.verdict.Verdict.TheVariants.{Feasible}
 use Rattle.task_machine.specs.Judging.{VerdictIs}
 use Rattle.race_variant.specs.Continuing.{IsContinued}
+use Rattle.race_variant.specs.KnownOffers.{OffersAreKnown}
 use Rattle.race_variant.specs.declared.continuing.GoEnd.{GoEnd}
 use Rattle.race_variant.specs.declared.continuing.GoEnd.TheVariants.{Ended, Stuck, Open, Count}
 use Rattle.debug_outcome.specs.Outcomes.{Outcome, writes, refuses}
@@ -22,15 +23,15 @@ end_status Stuck = 10
 end_status Open = 5
 end_status Count = 11
 
--- The events are feasible, at most so many are chosen to follow them, and the outcome is the file of all. That file is read as these events, and they are
--- feasible.
+-- The events are feasible, at most so many are chosen to follow them, and the outcome is the file of all, which are feasible. That file is read as these
+-- events, where each number in what the program's tasks offer is one that it has.
 pub record IsContinuedText {C : Type 0} (word : C → ℕ) (next : C → C) (setup : ProgramWithInputs) (numbers : Numbering) (bound : ℕ) (events : List Event) (chooser : C) (count : ℕ) (o : Outcome) : Type 0 where
   pub feasible : VerdictIs setup numbers bound events Feasible
   pub chosen : List Event
   pub end : GoEnd
   pub continued : IsContinued word next setup numbers bound events chooser count chosen end
   pub all_feasible : VerdictIs setup numbers bound (events ++ chosen) Feasible
-  pub read_back : SeqReads (SeqText setup.program.names numbers (events ++ chosen)) numbers setup.program.names (events ++ chosen)
+  pub read_back : OffersAreKnown setup numbers → SeqReads (SeqText setup.program.names numbers (events ++ chosen)) numbers setup.program.names (events ++ chosen)
   pub is : o ≡ writes (SeqText setup.program.names numbers (events ++ chosen)) (end_status end)
 
 -- The events call for this outcome, with these choices: that of going on from them, or the text of another verdict.
