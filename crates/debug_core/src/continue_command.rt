@@ -1,8 +1,10 @@
 // The command that goes on from a sequence of events.
 
+ghost use Rattle.std.specs.Prelude.{◌≤◌, length};
 ghost use Rattle.debug_outcome.specs.words.Commands.{name_as, source_as};
 ghost use Rattle.debug_outcome.specs.words.Words.{AsksContinue};
 ghost use Rattle.debug_outcome.specs.files.Giving.{IsShortContinue, given_as, inputs_in};
+ghost use Rattle.debug_outcome.specs.files.Wanting.{original_bytes};
 ghost use Rattle.debug_outcome.specs.Coming.{Comes, Never};
 ghost use Rattle.debug_outcome.specs.Traces.{HasLoads};
 ghost use Rattle.debug_core.specs.Answers.{CallsFor};
@@ -43,7 +45,8 @@ fn continue_files<'w, O: Sink>(
     most: Most,
     out: &mut O,
 ) -> Result<u8, Stop<'w>>
-    requires { IsShortContinue found.now }
+    requires short { IsShortContinue found.now }
+    requires within { length found.now.judged.start.text.items ≤ original_bytes }
     ensures { Comes (ContinueMeans found.now.judged.start.text.items (inputs_in found.now.judged.start) found.now.judged.sequence.items (given_as found.now.choices) most.count most.bound) Never (O.told out.old) (O.told out.new) (O.faults out.old) (O.faults out.new) result }
 {
     match read_start(alloc, &found.judged.start, Mode::Original) {

@@ -39,6 +39,7 @@ pub record AreOutOfOrder (numbers : Numbering) (events : List Event) (o : Outcom
   pub first : IsFirstRefused (owner_of numbers) (length numbers.tasks) events place
   pub told : o ≡ refuses (BadSequence BadOrder (place + 1))
 
+-- Events of one list come to this outcome: they are written by tasks, or their lists have too many events, or one of them is out of order.
 abbrev pub AreSplit : List (List ℕ) → Numbering → List Event → Outcome → Type 0
 AreSplit names numbers events o =
     AreWrittenByTasks names numbers events o ⊎ (AreTooManyByTasks numbers events o ⊎ AreOutOfOrder numbers events o)

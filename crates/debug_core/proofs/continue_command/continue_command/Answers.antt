@@ -5,6 +5,9 @@ use Rattle.debug_outcome.specs.Coming.{Never}
 use Rattle.debug_core.proofs.Calling.{both_there, continue_loaded, not_loaded}
 use Rattle.debug_core.proofs.continue_command.continue_command.Goals as goal
 
+pub continue_files-requires-clause-within : goal.continue_files-requires-clause-within
+continue_files-requires-clause-within g c = c.in-Ok.ensures.came.is_so.are.0.within
+
 pub returns-in-Ok : goal.returns-in-Ok
 returns-in-Ok g c =
     continue_loaded g.F.TracedFiles.leads c.args.files.now c.load_continue.new.files (g.F.Files.told c.args.files.now) (g.F.Files.faults c.args.files.now) (g.F.Files.faults c.load_continue.new.files) c.args.asked.judged.file.now c.in-Ok.found.judged.start.text.items (name_as c.args.asked.judged.inputs) (inputs_in c.in-Ok.found.judged.start) (both_there _ _ c.in-Ok.found.judged.start.inputs c.args.asked.judged.inputs c.in-Ok.ensures.named)
