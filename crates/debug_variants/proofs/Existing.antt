@@ -338,19 +338,22 @@ module _ (setup : ProgramWithInputs) (numbers : Numbering) (bound : ℕ) (events
     unfolding views
     running =
         let (found, h) = all_letters in
-        let opened = open_to (length numbers.tasks) in
-        (found, opened.tasks, record {
-          members = λ e. (
-            λ k. let m = (h.members e).0 k in ((more, (next e).1 m.0), m.2),
-            λ (m : CanFollow setup numbers bound events e × (skip ≡ Some e → ⊥)). (h.members e).1 ((next e).0 m.0.1, inl (below_ten e), m.1),
-          );
-          ascending = h.ascending;
-          open_tasks = λ t. (
-            λ k. let m = (opened.members t).0 k in open_holds setup numbers bound events well more t m.0 m.1,
-            λ (m : HoldsUp setup numbers bound events t). let is = holds_open setup numbers bound events well more t m in (opened.members t).1 (open_below t is, is),
-          );
-          rising = opened.rising;
-        })
+        let opened = open_to (length numbers.tasks) in (
+          found,
+          opened.tasks,
+          record {
+            members = λ e. (
+              λ k. let m = (h.members e).0 k in ((more, (next e).1 m.0), m.2),
+              λ (m : CanFollow setup numbers bound events e × (skip ≡ Some e → ⊥)). (h.members e).1 ((next e).0 m.0.1, inl (below_ten e), m.1),
+            );
+            ascending = h.ascending;
+            open_tasks = λ t. (
+              λ k. let m = (opened.members t).0 k in open_holds setup numbers bound events well more t m.0 m.1,
+              λ (m : HoldsUp setup numbers bound events t). let is = holds_open setup numbers bound events well more t m in (opened.members t).1 (open_below t is, is),
+            );
+            rising = opened.rising;
+          },
+        )
       where
         next : (e : Event) → VerdictIs setup numbers bound (events ++ e ∷ []) Feasible ↔ (all_hold numbers views e ≡ true)
         next = next_exactly setup numbers bound events well more views (λ t. (viewed t).seen)

@@ -157,10 +157,13 @@ module _ (setup : ProgramWithInputs) (numbers : Numbering) (bound : ℕ) (events
   }
 
   complete : (more n : ℕ) (places : List Place) → n + more ≡ place_count events → IsFirst n places → (rest : List Place) × ArePlaces setup numbers bound events (places ++ rest)
-  complete zero n places all h = ([], record {
-    count = let a : length (places ++ []) ≡ length places = ap length (append-nil places) in let b : n + 0 ≡ place_count events = all in omega (arith, h.count);
-    each = λ k place there. h.each k place (sym (ap (λ ps. slice_get ps k) (append-nil places)) ∙ there);
-  })
+  complete zero n places all h = (
+    [],
+    record {
+      count = let a : length (places ++ []) ≡ length places = ap length (append-nil places) in let b : n + 0 ≡ place_count events = all in omega (arith, h.count);
+      each = λ k place there. h.each k place (sym (ap (λ ps. slice_get ps k) (append-nil places)) ∙ there);
+    },
+  )
   complete (suc more) n places all h =
       let (found, unsettled, is) = variants_exist setup numbers bound (take n events) (slice_get events n) (front_well n) in
       let place : Place = record { found = found; unsettled = unsettled } in
@@ -172,7 +175,6 @@ module _ (setup : ProgramWithInputs) (numbers : Numbering) (bound : ℕ) (events
   whole n places le h = complete (place_count events - n) n places (omega arith) h
 
   -- ---- what stands on the output
-
 
   called : (places : List Place) → ArePlaces setup numbers bound events places → IsVariantsText setup numbers bound events (writes (variants_text events places) 0)
   called places are = record { feasible = well; places = places; are = are; is = refl }

@@ -108,7 +108,7 @@ module _ (g : Setting) where
           let b = lawful.accepted e i c caller l other.proper k.proper waits in
           let more : 0 < l.number = waits-beside g.numbers l.number (offers.opens e i) (offer_of l) (known-offer l k) waits in (
             after l (rendezvous.accepted e i c caller l) k b.0 (accepted-same e i c caller l) (has_accepted l.number e i c caller l refl) ((known-so l k).accepted e i c caller) ((few-so l k).accepted e i c caller)
-            (λ z. absurd (omega (arith, more, z))),
+                (λ z. absurd (omega (arith, more, z))),
             b.1,
           )
 

@@ -52,7 +52,7 @@ at-least (alt_then (alternative guard what s) rest) n = by_kind what (at-least r
 few-kind : (t : Task) (what : PAltKind) (n : ℕ) (o : Open) → delays_with what n ≤ 32 → kind_opened t what n ≡ Ok o → IsFew o
 few-kind t (AAccept (accepting head stmts) behind) n o low q =
     let c = chain (member_index t.setting (vars_of t) (entry_of t.setting.numbers t.number head.entry.name) head.index)
-        (λ i. Ok (Accepts (entry_of t.setting.numbers t.number head.entry.name) i head (stmts_or_none stmts) behind)) o q in
+    (λ i. Ok (Accepts (entry_of t.setting.numbers t.number head.entry.name) i head (stmts_or_none stmts) behind)) o q in
     subst IsFew (ok_path c.rest) tt
 few-kind t (ADelay duration stmts) n o low q =
     subst IsFew (ok_path q) (and_from (nat_le 1 (n + 1)) (nat_le (n + 1) 32) (le_true 1 (n + 1) (omega arith)) (le_true (n + 1) 32 low))
