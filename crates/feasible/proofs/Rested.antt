@@ -1,5 +1,5 @@
 -- Which tasks the answer to an event leaves settled.
-use Rattle.std.proofs.Common.{◌≡◌, ℕ, Bool, true, false, not, ◌&&◌, ◌||◌, ◌==◌, List, [], ◌∷◌, ◌++◌, take, sym, refl, ap, ◌∙◌, subst, true≢false, ⊎_elim, Result, Ok, Err, None}
+use Rattle.std.proofs.Common.{◌≡◌, ℕ, Bool, true, false, not, ◌&&◌, ◌||◌, ◌==◌, List, sym, refl, ap, ◌∙◌, subst, true≢false, ⊎_elim, Result, Ok, Err, None}
 use Rattle.std.specs.Prelude.{All, IfOk}
 use Rattle.std.proofs.lemmas.Bool.{cases_Bool}
 use Rattle.ada_tree.specs.declared.shortage.Memory.{Memory}

@@ -1,5 +1,5 @@
 -- The laws of judges and verdicts (this project's rules).
-use Rattle.std.specs.Prelude.{◌≡◌, ◌||◌, ℕ, Bool, true, List, take}
+use Rattle.std.specs.Prelude.{◌||◌, ℕ, Bool, List, take}
 use Rattle.event_machine.specs.declared.Event.{Event}
 use Rattle.event_machine.specs.declared.Standing.{Standing}
 use Rattle.event_machine.specs.States.{is_closed, is_served}

@@ -4,12 +4,12 @@ use Rattle.std.specs.Cmp.{IsTotalOrder}
 use Rattle.std.specs.List.{AllPairs, Contains}
 use Rattle.std.specs.declared.cmp.Ordering.{Ordering}
 use Rattle.std.specs.declared.cmp.Ordering.TheVariants.{Less, Greater}
-use Rattle.std.specs.Ordering.{ordering_reverse, int_cmp}
+use Rattle.std.specs.Ordering.{ordering_reverse}
 use Rattle.std.proofs.lemmas.Cmp.{nat_cmp_total, int_cmp_total, on_total, then_total, lists_total}
 use Rattle.event_machine.specs.declared.Event.{Event}
 use Rattle.syn_event.specs.Numbering.{Numbering}
 use Rattle.task_model.specs.Machine.{ProgramWithInputs}
-use Rattle.race_variant.specs.Variants.{letter_of, numbers_in, event_cmp, CanFollow, HoldsUp, AreVariants}
+use Rattle.race_variant.specs.Variants.{letter_of, numbers_in, event_cmp, AreVariants}
 
 none_in : {A : Type 0} (x : A) → Contains [] x → ⊥
 none_in x k = let less : k.0 < 0 = k.1 in omega arith
@@ -52,15 +52,12 @@ module _ {A : Type 0} (Below : A → A → Type 0) (one_way : (x y : A) → Belo
   same_elements [] [] hx hy there back = refl
   same_elements [] (y ∷ ys) hx hy there back = absurd (none_in y (back y (first_in y ys)))
   same_elements (x ∷ xs) [] hx hy there back = absurd (none_in x (there x (first_in x xs)))
-  same_elements (x ∷ xs) (y ∷ ys) hx hy there back = λ i. first i ∷ others i
-    where
-      first : x ≡ y
-      first = same_first x xs y ys hx hy (there x (first_in x xs)) (back y (first_in y ys))
-
-      others : xs ≡ ys
-      others = same_elements xs ys (others_ascend x xs hx) (others_ascend y ys hy)
-          (λ z k. stays_behind x xs y ys hx first z k (there z (later_in x xs z k)))
-          (λ z k. stays_behind y ys x xs hy (sym first) z k (back z (later_in y ys z k)))
+  same_elements (x ∷ xs) (y ∷ ys) hx hy there back =
+      let first = same_first x xs y ys hx hy (there x (first_in x xs)) (back y (first_in y ys)) in
+      let others = same_elements xs ys (others_ascend x xs hx) (others_ascend y ys hy)
+      (λ z k. stays_behind x xs y ys hx first z k (there z (later_in x xs z k)))
+      (λ z k. stays_behind y ys x xs hy (sym first) z k (back z (later_in y ys z k))) in
+      λ i. first i ∷ others i
 
 -- ---- variants
 

@@ -1,5 +1,5 @@
 -- Lists of chosen events, as one more is chosen: they are unique, and each can come next in its turn.
-use Rattle.std.proofs.Common.{◌≡◌, ◌⊎◌, inl, inr, ⊎_elim, ℕ, zero, suc, ◌+◌, ◌%◌, ◌<◌, ◌≤◌, List, [], ◌∷◌, ◌++◌, length, refl, sym, ap, ◌∙◌, subst, arith, Option, Some, None, append_assoc, length-append}
+use Rattle.std.proofs.Common.{◌≡◌, ⊎_elim, ℕ, zero, suc, ◌+◌, ◌%◌, List, [], ◌∷◌, ◌++◌, length, refl, sym, ap, ◌∙◌, subst, arith, Option, Some, None, length-append}
 use Rattle.std.specs.Fn.{iterate}
 use Rattle.std.specs.Prelude.{slice_get}
 use Rattle.std.specs.List.{Contains}
@@ -9,7 +9,7 @@ use Rattle.syn_event.specs.Numbering.{Numbering}
 use Rattle.task_model.specs.Machine.{ProgramWithInputs}
 use Rattle.task_machine.proofs.OneVerdict.{two_splits}
 use Rattle.common_lemmas.proofs.Lists.{never_empty}
-use Rattle.race_variant.specs.Variants.{AreVariants, CanFollow}
+use Rattle.race_variant.specs.Variants.{CanFollow}
 use Rattle.race_variant.specs.Continuing.{IsPicked, AreChosen}
 use Rattle.race_variant.proofs.Ascents.{one_found}
 

@@ -1,5 +1,5 @@
 -- The turns of going on: how it ends by itself, and one more event.
-use Rattle.std.proofs.Common.{◌≡◌, ◌↔◌, ℕ, ◌+◌, ◌%◌, ◌<◌, ◌≤◌, true, false, List, [], ◌∷◌, ◌++◌, take, length, refl, sym, ap, ◌∙◌, subst, arith, Option, Some, None, append_assoc}
+use Rattle.std.proofs.Common.{◌≡◌, ℕ, ◌%◌, ◌<◌, true, false, List, [], ◌∷◌, ◌++◌, take, length, refl, sym, ap, ◌∙◌, subst, arith, Option, Some, None, append_assoc}
 use Rattle.std.proofs.lemmas.List.{append-nil}
 use Rattle.std.specs.Fn.{iterate}
 use Rattle.std.specs.Prelude.{slice_get}
@@ -9,19 +9,18 @@ use Rattle.event_machine.specs.Tallies.{HasNoEnd}
 use Rattle.syn_event.specs.Numbering.{Numbering}
 use Rattle.task_model.specs.Machine.{ProgramWithInputs}
 use Rattle.task_machine.specs.Judging.{VerdictIs}
-use Rattle.task_machine.specs.declared.verdict.Verdict.{Verdict}
 use Rattle.task_machine.specs.declared.verdict.Verdict.TheVariants.{Feasible}
-use Rattle.common_lemmas.proofs.Lists.{element_at}
+use Rattle.common_lemmas.proofs.Lists.{element_at, short_empty}
 use Rattle.task_machine.proofs.OneVerdict.{verdict_unique}
 use Rattle.feasible.specs.Keeping.{StandsFor, HaveEnded, is_feasible}
 use Rattle.feasible.specs.Kept.{Kept}
 use Rattle.feasible.proofs.Resting.{all_taken, no_end}
-use Rattle.race_variant.specs.Variants.{AreVariants, CanFollow, HoldsUp}
+use Rattle.race_variant.specs.Variants.{AreVariants, CanFollow}
 use Rattle.race_variant.specs.Continuing.{IsPicked, EndsSo, AreChosen}
 use Rattle.race_variant.specs.declared.continuing.GoEnd.{GoEnd}
-use Rattle.race_variant.specs.declared.continuing.GoEnd.TheVariants.{Ended, Stuck, Open, Count}
-use Rattle.race_variant.specs.inner.Choosing.{HaltsBy, HasSome, IsOneMore, StaysFeasible, AreChosenBy, HasGoneOn, HasEnded}
-use Rattle.race_variant.proofs.Choices.{in_at, turn_last, picked_follows, none_chosen, one_chosen}
+use Rattle.race_variant.specs.declared.continuing.GoEnd.TheVariants.{Stuck, Open, Count}
+use Rattle.race_variant.specs.inner.Choosing.{HaltsBy, IsOneMore, LeavesFeasible, AreChosenBy, HasGoneOn, HasEnded}
+use Rattle.race_variant.proofs.Choices.{in_at, turn_last, none_chosen, one_chosen}
 
 -- ---- what a judge stands for
 
@@ -52,19 +51,20 @@ module _ (setup : ProgramWithInputs) (events : List Event) (numbers : Numbering)
   pub halts_open : (t : ℕ) (rest : List ℕ) → AreVariants setup numbers bound events None [] (t ∷ rest) → EndsSo setup numbers bound events Open
   halts_open t rest v = (no_follower (t ∷ rest) v, (t, (v.open_tasks t).0 (0, omega arith, refl)))
 
--- Where nothing was found and the program runs, it is stuck or a task is open.
-pub halts_so : (setup : ProgramWithInputs) (events : List Event) (old new : Kept) (found : List Event) (unsettled : List ℕ) → StandsFor setup events new → is_feasible new.verdict ≡ true → new.ended ≡ false →
-    found ≡ [] → AreVariants setup old.numbers old.bound events None found unsettled →
-    (end : GoEnd) → (unsettled ≡ [] → end ≡ Stuck) → ((t : ℕ) (rest : List ℕ) → unsettled ≡ (t ∷ rest) → end ≡ Open) → EndsSo setup old.numbers old.bound events end
-halts_so setup events old new found unsettled s well running none v end stuck open' = go unsettled refl
-  where
-    left : (us : List ℕ) → unsettled ≡ us → AreVariants setup old.numbers old.bound events None [] us
-    left us is = subst (λ vs. AreVariants setup old.numbers old.bound events None [] vs) is (subst (λ fs. AreVariants setup old.numbers old.bound events None fs unsettled) none v)
+-- Where nothing was found, the program runs and no task is open, it is stuck.
+pub stuck_here : (setup : ProgramWithInputs) (events : List Event) (old new : Kept) (found : List Event) (unsettled : List ℕ) → StandsFor setup events new → is_feasible new.verdict ≡ true → new.ended ≡ false →
+    length found ≡ 0 → length unsettled ≡ 0 → AreVariants setup old.numbers old.bound events None found unsettled → EndsSo setup old.numbers old.bound events Stuck
+stuck_here setup events old new found unsettled s well running none nobody v =
+    halts_stuck setup events old.numbers old.bound (no_end setup events new s well running)
+    (subst (λ us. AreVariants setup old.numbers old.bound events None [] us) (short_empty unsettled (omega arith))
+    (subst (λ fs. AreVariants setup old.numbers old.bound events None fs unsettled) (short_empty found (omega arith)) v))
 
-    go : (us : List ℕ) → unsettled ≡ us → EndsSo setup old.numbers old.bound events end
-    go [] is = subst (EndsSo setup old.numbers old.bound events) (sym (stuck is))
-        (halts_stuck setup events old.numbers old.bound (no_end setup events new s well running) (left [] is))
-    go (t ∷ rest) is = subst (EndsSo setup old.numbers old.bound events) (sym (open' t rest is)) (halts_open setup events old.numbers old.bound t rest (left (t ∷ rest) is))
+-- Where nothing was found and a task is open, it ends by that.
+pub open_here : (setup : ProgramWithInputs) (events : List Event) (old : Kept) (found : List Event) (unsettled : List ℕ) → length found ≡ 0 → (length unsettled ≡ 0 → ⊥) →
+    AreVariants setup old.numbers old.bound events None found unsettled → EndsSo setup old.numbers old.bound events Open
+open_here setup events old found [] none some v = absurd (some refl)
+open_here setup events old found (t ∷ rest) none some v =
+    halts_open setup events old.numbers old.bound t rest (subst (λ fs. AreVariants setup old.numbers old.bound events None fs (t ∷ rest)) (short_empty found (omega arith)) v)
 
 -- Where the program has ended, it is that.
 pub halts_ended : (setup : ProgramWithInputs) (events : List Event) (new : Kept) → StandsFor setup events new → is_feasible new.verdict ≡ true → HaveEnded (take new.taken events) → HaveEnded events
@@ -133,7 +133,7 @@ module _ {C : Type 0} (word : C → ℕ) (next : C → C) (j0 : Kept) (c0 : C) w
       }
 
       module _ (found : List Event) (halts : (setup : ProgramWithInputs) (events : List Event) → StandsFor setup events j → is_feasible j.verdict ≡ true → HaltsBy setup j.numbers j.bound events found None)
-          (j2 : Kept) (numbers2 : j2.numbers ≡ j1.numbers) (bound2 : j2.bound ≡ j1.bound) (well2 : StaysFeasible found j1 j2) where
+          (j2 : Kept) (numbers2 : j2.numbers ≡ j1.numbers) (bound2 : j2.bound ≡ j1.bound) (well2 : LeavesFeasible found j1 j2) where
         -- all that was found can come next
         follow : (setup : ProgramWithInputs) (events : List Event) → StandsFor setup events j0 → (e : Event) → Contains found e → CanFollow setup j1.numbers j1.bound (events ++ chosen) e
         follow setup events s e k =

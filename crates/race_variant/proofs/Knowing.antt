@@ -1,5 +1,5 @@
 -- What can come next has numbers that the program has, where its offers are known.
-use Rattle.std.proofs.Common.{◌≡◌, ℕ, ℤ, Bool, true, false, not, ◌&&◌, ◌==◌, List, [], ◌∷◌, ◌++◌, refl, sym, ap, ◌∙◌, subst, true≢false, ⊎_elim}
+use Rattle.std.proofs.Common.{◌≡◌, ℕ, ℤ, Bool, true, not, ◌&&◌, ◌==◌, List, [], ◌∷◌, refl, sym, ap, ◌∙◌, subst, true≢false, ⊎_elim, arith}
 use Rattle.std.specs.Prelude.{All, nat_lt}
 use Rattle.std.specs.List.{list_all, list_any}
 use Rattle.std.proofs.lemmas.Bool.{and_parts, and_from, eqb-true, or_cases}
@@ -21,7 +21,7 @@ use Rattle.task_machine.specs.Views.{View, Completed, Abnormal, Busy, At, ViewIs
 use Rattle.task_machine.proofs.Judged.{by_table}
 use Rattle.race_variant.specs.GoingLaws.{VariantsAreKnown}
 use Rattle.race_variant.specs.KnownOffers.{is_known_choice, is_known_offer, OffersAreKnown}
-use Rattle.race_variant.specs.inner.Passing.{actor_of, offer_seen}
+use Rattle.race_variant.specs.inner.Passing.{offer_seen}
 use Rattle.race_variant.proofs.Offers.{holds_R, holds_E, holds_S, holds_D, holds_C, holds_T, holds_F, holds_X, holds_B}
 
 first_part : (a b : Bool) → (a && b) ≡ true → a ≡ true

@@ -6,7 +6,7 @@ ghost use Rattle.event_machine.specs.declared.Event as event;
 ghost use Rattle.task_model.specs.Machine.{ProgramWithInputs};
 ghost use Rattle.feasible.specs.Keeping.{StandsFor, is_feasible};
 ghost use Rattle.race_variant.specs.Continuing.{AreChosen, IsContinued};
-ghost use Rattle.race_variant.specs.inner.Choosing.{HaltsBy, HasSome, IsOneMore, StaysFeasible, AreChosenBy, HasGoneOn, HasEnded};
+ghost use Rattle.race_variant.specs.inner.Choosing.{HaltsBy, HasSome, IsOneMore, LeavesFeasible, AreChosenBy, HasGoneOn, HasEnded};
 
 use crate::finding::list_variants;
 use ada_tree::Memory;
@@ -139,7 +139,7 @@ fn choose<C: Chooser>(
     requires some { 0 < length found.now }
     requires few { j.old.taken + 1 < 2 ^ 32 }
     ensures one { OnOk result (IsOneMore C.word C.next found.now choices.old choices.new chosen.old.items chosen.new.items j.old j.new) }
-    ensures feasible { StaysFeasible found.now j.old j.new }
+    ensures feasible { LeavesFeasible found.now j.old j.new }
     ensures unchanged { OnErr result (chosen.new.items ≡ chosen.old.items) }
     ensures same_numbers { j.new.numbers ≡ j.old.numbers }
     ensures bound { j.new.bound ≡ j.old.bound }

@@ -1,5 +1,5 @@
 -- Going on as it is done: at each turn it ends by itself, or one more event is chosen.
-use Rattle.std.specs.Prelude.{◌≡◌, ◌<◌, ◌≤◌, ◌%◌, ◌++◌, ◌∷◌, [], ℕ, List, true, false, Option, Some, None, length, slice_get}
+use Rattle.std.specs.Prelude.{◌≡◌, ◌<◌, ◌%◌, ◌++◌, ◌∷◌, [], ℕ, List, true, false, Option, Some, None, length, slice_get}
 use Rattle.std.specs.Fn.{iterate}
 use Rattle.std.specs.List.{Contains}
 use Rattle.event_machine.specs.declared.Event.{Event}
@@ -32,8 +32,8 @@ pub record IsOneMore {C : Type 0} (word : C → ℕ) (next : C → C) (found : L
   pub stands : (setup : ProgramWithInputs) (events : List Event) → StandsFor setup events j → HasNoEnd events → StandsFor setup (events ++ event ∷ []) j'
 
 -- Whatever comes of it, a judge that has found its events feasible still has, where all that was found can come next.
-abbrev pub StaysFeasible : List Event → Kept → Kept → Type 0
-StaysFeasible found j j' =
+abbrev pub LeavesFeasible : List Event → Kept → Kept → Type 0
+LeavesFeasible found j j' =
     (setup : ProgramWithInputs) (events : List Event) → StandsFor setup events j → is_feasible j.verdict ≡ true → ((e : Event) → Contains found e → CanFollow setup j.numbers j.bound events e) →
     is_feasible j'.verdict ≡ true
 
