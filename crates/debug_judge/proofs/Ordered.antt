@@ -1,5 +1,5 @@
 -- Lists by tasks are judged by the sequence that they join into.
-use Rattle.std.proofs.Common.{◌≡◌, ◌+◌, ◌<◌, true, ℕ, List, length, inl, inr, sym, ◌∙◌, subst, arith}
+use Rattle.std.proofs.Common.{◌≡◌, true, ℕ, List, length, inl, inr, sym, ◌∙◌, subst, arith}
 use Rattle.common_lemmas.proofs.Truth.{clash}
 use Rattle.event_machine.specs.declared.Event.{Event}
 use Rattle.syn_event.specs.Numbering.{Numbering}

@@ -6,6 +6,7 @@ ghost use Rattle.event_machine.specs.declared.Event.{Event};
 ghost use Rattle.syn_event.specs.DeclaredTasks.{text_of};
 ghost use Rattle.seq_file.specs.Lines.{is_upper_name};
 ghost use Rattle.seq_file.specs.Lists.{is_in_lists, list_count};
+ghost use Rattle.seq_file.specs.Short.{IsShort};
 ghost use Rattle.task_model.specs.Machine.{ProgramWithInputs};
 ghost use Rattle.task_machine.specs.Table.{setup_in};
 ghost use Rattle.feasible.specs.Keeping.{NothingFollows};
@@ -34,7 +35,7 @@ use task_links::Links;
 /// sequence of the program are refused.
 ///
 /// `lines` are those bytes, in either format. A file of one list is judged line by line, and no list of events is kept; lists by tasks are joined
-/// first. All tasks are the original's, and the program's name is in upper case.
+/// first. All tasks are the original's, the program's name is in upper case, and its tasks and entries have numbers of 32 bits.
 pub fn report_lines<'w, K: Sink>(
     alloc: Global,
     program: &Program,
@@ -48,6 +49,7 @@ pub fn report_lines<'w, K: Sink>(
     requires lines { length lines.now < 2 ^ 32 - 1 }
     requires name { is_upper_name (text_of (plain_program program.now).names numbers.now.main) ≡ true }
     requires tasks { length numbers.now.tasks ≡ list_count numbers.now }
+    requires short { IsShort numbers.now }
     ensures { Comes (SequenceMeans (record { program = plain_program program.now; types = types.now; inputs = inputs.now }) numbers.now lines.now bound) Never (K.told out.old) (K.told out.new) (K.faults out.old) (K.faults out.new) result }
 {
     let links = match Links::new(alloc, program, types, numbers) {
@@ -73,6 +75,7 @@ fn report_joined<'w, 'p, K: Sink>(
     requires lines { length lines.now < 2 ^ 32 - 1 }
     requires name { is_upper_name (text_of links.now.program.names links.now.numbers.main) ≡ true }
     requires tasks { length links.now.numbers.tasks ≡ list_count links.now.numbers }
+    requires short { IsShort links.now.numbers }
     ensures { Comes (SequenceMeans (setup_in links.now inputs.now) links.now.numbers lines.now bound) Never (K.told out.old) (K.told out.new) (K.faults out.old) (K.faults out.new) result }
 {
     let events = match read_sequence(alloc, lines, links.numbers(), &links.program().names) {

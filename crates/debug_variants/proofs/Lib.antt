@@ -1,4 +1,6 @@
 mod Existing
 mod Placed
 mod Places
+mod Verdicts
+mod Files
 pub mod OneOutcome

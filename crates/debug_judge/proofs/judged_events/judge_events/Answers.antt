@@ -1,4 +1,4 @@
-use Rattle.std.proofs.Common.{◌≡◌, ◌+◌, ◌<◌, ◌^◌, List, take, length, arith, sym, subst}
+use Rattle.std.proofs.Common.{List, take, arith, sym, subst}
 use Rattle.std.proofs.lemmas.List.{take_more, take_all}
 use Rattle.event_machine.specs.declared.Event.{Event}
 use Rattle.task_model.specs.Machine.{ProgramWithInputs}
