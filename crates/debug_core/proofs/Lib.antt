@@ -9,7 +9,6 @@ pub mod OneIllegal
 pub mod OneStart
 pub mod OneRun
 pub mod OneJudged
-pub mod OneVaried
 pub mod OneMeaning
 pub mod OneAnswer
 pub mod Following

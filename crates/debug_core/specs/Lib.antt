@@ -4,7 +4,6 @@ pub mod LegalTexts
 pub mod InputTexts
 pub mod ChoiceTexts
 pub mod ChosenRuns
-pub mod ChosenEvents
 pub mod Starts
 pub mod PrintMeaning
 pub mod CheckMeaning
@@ -13,8 +12,6 @@ pub mod JudgeMeaning
 pub mod ReplayMeaning
 pub mod RequireMeaning
 pub mod MigrateMeaning
-pub mod VariantsMeaning
-pub mod ContinueMeaning
 pub mod Answers
 pub mod OneAnswer
 pub mod Headline
