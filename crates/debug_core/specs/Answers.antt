@@ -73,7 +73,7 @@ sides told_files file_faults told_out out_faults told_err err_faults files files
 -- What is offered of what the words may ask for: variants of a sequence and going on from one are told as words that are no usage.
 abbrev pub offered : Option Asked → Option Asked
 offered (Some (AsksVariants file inputs sequence bound)) = None
-offered (Some (AsksContinue file inputs sequence choices count bound)) = None
+offered (Some (AsksContinue file inputs sequence source count bound)) = None
 offered asked = asked
 
 -- The status answers what the words ask for: it ends a call that delivers an outcome for which words and files call. Words that are no usage are refused, and that needs no memory.

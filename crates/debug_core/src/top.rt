@@ -113,6 +113,7 @@ fn carry_out<'w, F: TracedFiles, O: Sink>(
         Command::Require(asked) => require_command(alloc, asked, files, out),
         Command::Migrate(asked) => migrate_command(alloc, asked, files, out),
         // such words are told as no usage before
-        Command::Variants(_) | Command::Continue(_) => Err(Stop::Memory),
+        Command::Variants(_) => Err(Stop::Memory),
+        Command::Continue(_) => Err(Stop::Memory),
     }
 }

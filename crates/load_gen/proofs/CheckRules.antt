@@ -1,5 +1,5 @@
 -- The rules 13 to 23 refuse nothing in the program as an original. The declarations are gone through one by one; what is asked of names and of the list of bodies is told apart, and the rest is computed.
-use Rattle.std.proofs.Common.{◌≡◌, ◌≢◌, ◌⊎◌, inl, inr, subst, ℕ, zero, suc, ◌+◌, ◌*◌, ◌≤◌, ◌<◌, ◌==◌, Bool, true, false, ◌||◌, List, [], ◌∷◌, ◌++◌, length, Option, Some, None, map, flat_map, find, if◌then◌else◌, refl, sym, ap, ◌∙◌, arith}
+use Rattle.std.proofs.Common.{◌≡◌, ◌≢◌, ◌⊎◌, inl, inr, subst, ℕ, zero, suc, ◌+◌, ◌*◌, ◌≤◌, ◌<◌, ◌==◌, Bool, true, false, List, [], ◌∷◌, ◌++◌, Option, Some, None, map, flat_map, find, if◌then◌else◌, refl, sym, ap, ◌∙◌, arith}
 use Rattle.std.specs.Prelude.{nat_le, nat_lt}
 use Rattle.std.proofs.Math.Nat.{mul-zero}
 use Rattle.std.proofs.lemmas.Bool.{ne_eqb, le-leb, le-ltb}
@@ -8,20 +8,17 @@ use Rattle.std.proofs.lemmas.Grind.{flat_map-append}
 use Rattle.std.specs.List.{list_any, range_with_len}
 use Rattle.ada_tree.specs.declared.naming.NameId.{NameId}
 use Rattle.ada_tree.specs.TypeTable.{TypeTable}
-use Rattle.ada_tree.specs.PlainDecl.{PTask, PDecl, PDecls, decls_of}
-use Rattle.ada_tree.specs.PlainProgram.{PProgram}
+use Rattle.ada_tree.specs.PlainDecl.{PDecls, decls_of}
 use Rattle.ada_static_rules.specs.Refusals.{types_in}
 use Rattle.syn_event.specs.declared.numbering.Mode.TheVariants as mode
 use Rattle.syn_event.specs.declared.meanings.Meant.{Meant}
 use Rattle.syn_event.specs.declared.meanings.Meant.TheVariants.{TaskOf, MainProcedure}
-use Rattle.syn_event.specs.DeclaredTasks.{text_of}
-use Rattle.syn_event.specs.RuleReservedName.{is_reserved}
 use Rattle.syn_event.specs.NamedTasks.{NamedTasks, named_tasks, task_names_in, task_count}
 use Rattle.syn_event.specs.Copying.{body_share, part_share}
 use Rattle.syn_event.specs.CheckScope.{EnclosingUnit, CheckScope, CheckSite, declares}
-use Rattle.syn_event.specs.CheckSites.{site, decl_sites, decls_sites, after_decl, body_names, body_sites, after_decls, around_program, tasks_sites, entries_sites, copies_sites, counted_sites, all_copies_sites, check_sites}
+use Rattle.syn_event.specs.CheckSites.{site, decl_sites, decls_sites, body_names, body_sites, after_decls, around_program, tasks_sites, entries_sites, copies_sites, counted_sites, all_copies_sites}
 use Rattle.syn_event.specs.CheckRefusals.{refused_at, check_refusals}
-use Rattle.load_gen.specs.LoadTree.{nowhere, word, producer_id, producers, put_entry, task_with, producer_task, producer_body, buffer_task, buffer_body, load_decls, load_body, load_names, load_tree}
+use Rattle.load_gen.specs.LoadTree.{nowhere, word, producers, put_entry, task_with, producer_task, producer_body, buffer_task, buffer_body, load_decls, load_body, load_names, load_tree}
 use Rattle.load_gen.proofs.Texts.{IsFine, producer-fine}
 
 -- nothing is refused at these places, in an original with those names

@@ -1,16 +1,16 @@
 -- The program is well placed.
-use Rattle.std.proofs.Common.{◌≡◌, ℕ, zero, suc, ◌+◌, ◌≤◌, lit≤, lit<, inl, Bool, true, false, not, List, [], ◌∷◌, ◌++◌, length, Some, map, slice_get, refl, subst, sym, arith}
-use Rattle.std.specs.Prelude.{IsTrue, IsSomeAnd, nat_le}
+use Rattle.std.proofs.Common.{◌≡◌, ℕ, zero, suc, ◌+◌, ◌≤◌, lit≤, lit<, inl, true, not, List, [], ◌∷◌, ◌++◌, length, Some, map, slice_get, refl, subst, sym, arith}
+use Rattle.std.specs.Prelude.{IsSomeAnd, nat_le}
 use Rattle.std.specs.List.{range_with_len, list_all, list_any, All}
 use Rattle.std.specs.Str.{bytes_eq}
 use Rattle.std.specs.Fmt.{digits}
 use Rattle.std.proofs.lemmas.Bool.{leb-true}
 use Rattle.std.proofs.lemmas.List.Elements.{All-nil, All-cons}
-use Rattle.ada_tree.specs.PlainDecl.{PDecl, decls_of}
-use Rattle.ada_tree.specs.Every.{Rules, EveryWord, EveryFormal, EveryExpr, EveryEntry, EveryPart, EveryAlt, EveryPriority, EveryBody, EveryDecl, EveryDecls}
+use Rattle.ada_tree.specs.PlainDecl.{decls_of}
+use Rattle.ada_tree.specs.Every.{EveryWord, EveryFormal, EveryExpr, EveryEntry, EveryPart, EveryAlt, EveryPriority, EveryDecl, EveryDecls}
 use Rattle.ada_tree.specs.Lexical.{is_word, reserved, IsIdentifier}
 use Rattle.ada_tree.specs.WellPlaced.{AreLater, BodiesLast, well_placed, IsWellPlaced}
-use Rattle.load_gen.specs.LoadTree.{producer_text, word, number, formal, put_entry, sum_image, serving, producers, producer_task, producer_body, buffer_task, buffer_body, load_body, load_names, load_decls, load_tree}
+use Rattle.load_gen.specs.LoadTree.{producer_text, word, number, formal, put_entry, sum_image, serving, producers, producer_task, producer_body, buffer_task, buffer_body, load_names, load_tree}
 use Rattle.load_gen.specs.Promised.{TellNames}
 use Rattle.load_gen.proofs.Ranges.{at_number}
 use Rattle.load_gen.proofs.Texts.{producer_there}

@@ -1,19 +1,16 @@
 -- The program has the numbers of the definition.
-use Rattle.std.proofs.Common.{◌≡◌, ℕ, zero, suc, ◌+◌, ◌≤◌, false, ◌||◌, List, [], ◌∷◌, map, flat_map, None, Some, refl, sym, ap, ◌∙◌, arith}
-use Rattle.std.specs.Prelude.{pos}
+use Rattle.std.proofs.Common.{◌≡◌, ℕ, zero, suc, ◌+◌, ◌≤◌, false, List, [], ◌∷◌, map, flat_map, None, refl, sym, ap, ◌∙◌, arith}
 use Rattle.std.specs.List.{range_with_len}
-use Rattle.ada_tree.specs.declared.naming.NameId.{NameId}
 use Rattle.ada_tree.specs.TypeTable.{TypeTable}
-use Rattle.syn_event.specs.declared.numbering.TaskInfo.{TaskInfo}
 use Rattle.syn_event.specs.AddedNames.{is_added_name, task_info, with_origins}
-use Rattle.syn_event.specs.NamedTasks.{NumberedTask, task_names_of, tasks_of_name, numbered_tasks}
+use Rattle.syn_event.specs.NamedTasks.{NumberedTask, tasks_of_name, numbered_tasks}
 use Rattle.syn_event.specs.Numbering.{Numbering}
 use Rattle.syn_event.specs.AllNumbers.{info_of_task, entries_of_tasks, all_numbers}
 use Rattle.load_gen.specs.LoadTree.{producer_id, producers, put_entry, task_with, load_names, load_tree}
-use Rattle.load_gen.specs.LoadNumbers.{own_task, put_info, load_numbers}
+use Rattle.load_gen.specs.LoadNumbers.{own_task, load_numbers}
 use Rattle.load_gen.proofs.Ranges.{front_false}
 use Rattle.load_gen.proofs.Texts.{IsFine, producer-fine}
-use Rattle.load_gen.proofs.CheckRules.{named_buffer, named_producer, names-of_tasks}
+use Rattle.load_gen.proofs.CheckRules.{named_producer, names-of_tasks}
 
 abbrev numbered_buffer : NumberedTask
 numbered_buffer = record { name = record { 0 = 26 }; unit = task_with 26 (put_entry ∷ []); member = None }

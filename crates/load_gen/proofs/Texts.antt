@@ -1,5 +1,5 @@
 -- The names of the program: those of the producers are new, one after the other; each id has its text; and each text may be declared. What is asked of the producers' texts is computed, since there are at most a hundred.
-use Rattle.std.proofs.Common.{◌≡◌, ℕ, ◌+◌, ◌-◌, ◌<◌, ◌≤◌, Bool, true, false, not, ◌&&◌, List, [], ◌∷◌, ◌++◌, length, Option, Some, map, option_map, unwrap_or, slice_get, get_or, suc, subst, if◌then◌else◌, refl, sym, ap, arith, ◌∙◌}
+use Rattle.std.proofs.Common.{◌≡◌, ℕ, ◌+◌, ◌-◌, ◌<◌, ◌≤◌, Bool, true, false, not, List, [], ◌∷◌, ◌++◌, length, Some, map, option_map, unwrap_or, slice_get, get_or, suc, subst, if◌then◌else◌, refl, sym, ap, arith, ◌∙◌}
 use Rattle.std.specs.Prelude.{codes, nat_lt}
 use Rattle.std.specs.List.{range_with_len, list_all, list_any}
 use Rattle.std.specs.Str.{bytes_eq}

@@ -1,17 +1,16 @@
 -- The first twelve static rules refuse nothing in the program, and its types are the predefined ones. The declarations are gone through one by one: what each looks up in front of it is told apart, and the rest is computed.
-use Rattle.std.proofs.Common.{◌≡◌, ◌≢◌, ◌⊎◌, inl, inr, subst, ℕ, zero, suc, ◌+◌, ◌≤◌, ◌<◌, ◌==◌, Bool, true, false, ◌||◌, List, [], ◌∷◌, ◌++◌, Option, Some, None, map, find, refl, sym, ap, ◌∙◌, arith, append_assoc}
+use Rattle.std.proofs.Common.{◌≡◌, ◌≢◌, ◌⊎◌, inl, inr, subst, ℕ, zero, suc, ◌+◌, ◌≤◌, ◌<◌, ◌==◌, Bool, true, false, List, [], ◌∷◌, ◌++◌, Option, Some, map, find, refl, sym, ap, ◌∙◌, arith, append_assoc}
 use Rattle.std.proofs.lemmas.Bool.{ne_eqb, le-ltb}
 use Rattle.std.proofs.lemmas.Bool.Decides.{eqb_tells}
 use Rattle.std.specs.List.{list_any, range_with_len}
 use Rattle.ada_tree.specs.declared.statements.ParMode.TheVariants.{Take}
 use Rattle.ada_tree.specs.PlainDecl.{PDecl, PDecls, decls_of, decl_then}
-use Rattle.ada_tree.specs.TypeTable.{TypeTable}
-use Rattle.ada_static_rules.specs.Scope.{Scope, NameMeaning, Thing, SingleTask, EntryPart, single, TypeMark}
+use Rattle.ada_static_rules.specs.Scope.{Scope, NameMeaning, SingleTask, EntryPart, single, TypeMark}
 use Rattle.ada_static_rules.specs.Demand.{Site, declares}
 use Rattle.ada_static_rules.specs.Declaring.{predefined_types, seen_as, before_all, first_scope, after_decl, after_decls}
 use Rattle.ada_static_rules.specs.Sites.{site, decl_sites, decls_sites}
 use Rattle.ada_static_rules.specs.RuleDuplicate.{is_among, is_predefined, fixes, introduces}
-use Rattle.ada_static_rules.specs.Refusals.{Refusal, refused_at, refused_from, refusals, types_in}
+use Rattle.ada_static_rules.specs.Refusals.{refused_at, refused_from, refusals, types_in}
 use Rattle.load_gen.proofs.Ranges.{front_false, rest_false}
 use Rattle.load_gen.specs.LoadTree.{word, producer_id, producers, producer_task, producer_body, buffer_task, buffer_body, load_tree}
 

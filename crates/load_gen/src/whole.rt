@@ -4,7 +4,7 @@ ghost use Rattle.std.specs.Prelude.{◌≡◌, ◌≤◌, ◌++◌, map, IfOk, O
 ghost use Rattle.ada_tree.specs.PlainStmt.{plain_body};
 ghost use Rattle.ada_tree.specs.PlainDecl.{plain_decl};
 ghost use Rattle.ada_tree.specs.PlainProgram.{plain_program};
-ghost use Rattle.load_gen.specs.LoadTree.{load_body, load_decls, most_producers};
+ghost use Rattle.load_gen.specs.LoadTree.{load_body, load_decls, load_tree, most_producers};
 ghost use Rattle.load_gen.specs.Promised.{IsLoad};
 
 use crate::buffer::{buffer_body, buffer_task};
@@ -35,11 +35,10 @@ fn load_body(alloc: Global) -> Result<Body, Memory>
     body_of(one_stmt(alloc, Ok(null_stmt(NOWHERE))), Ok(Vec::new(alloc)))
 }
 
-/// The program LOAD with n producers, at most 100. It takes time linear in n. The only error is out of memory.
-#[tactic(auto, using(crate::proofs::Legal::promised))]
-pub fn program(alloc: Global, n: u32) -> Result<Program, Memory>
+// The tree of the program with n producers.
+fn tree(alloc: Global, n: u32) -> Result<Program, Memory>
     requires { n ≤ most_producers }
-    ensures { IfOk result (λ made. IsLoad n (plain_program made)) }
+    ensures { IfOk result (λ made. plain_program made ≡ load_tree n) }
 {
     let mut decls = Vec::new(alloc);
     let done = put_decls(alloc, n, &mut decls);
@@ -50,4 +49,13 @@ pub fn program(alloc: Global, n: u32) -> Result<Program, Memory>
         keep_decls(decls, done),
         load_body(alloc),
     )
+}
+
+/// The program LOAD with n producers, at most 100. It takes time linear in n. The only error is out of memory.
+#[tactic(auto, using(crate::proofs::Legal::all_promised))]
+pub fn program(alloc: Global, n: u32) -> Result<Program, Memory>
+    requires { n ≤ most_producers }
+    ensures { IfOk result (λ made. IsLoad n (plain_program made)) }
+{
+    tree(alloc, n)
 }

@@ -13,4 +13,4 @@ returns-in-FromList g c =
     c.new.ensures c.run_by.ensures)
 
 pub returns-in-FromSeed : goal.returns-in-FromSeed
-returns-in-FromSeed g c = rw c.in-FromSeed.is (rw c.new-in-FromSeed.ensures at c.run_by.ensures)
+returns-in-FromSeed g c = rw c.in-FromSeed.is (rw c.new-in-FromSeed.ensures at c.run_by-in-FromSeed.ensures)
