@@ -1,0 +1,12 @@
+pub mod Interned
+pub mod Found
+pub mod Numbers
+pub mod Lines
+pub mod Turning
+pub mod Accepting
+pub mod Granting
+pub mod Joining
+pub mod Starting
+pub mod Making
+pub mod Apart
+pub mod Examples
