@@ -1,6 +1,0 @@
-use Rattle.replay_declarations.proofs.units.Put.{moved-put}
-use Rattle.collect_declarations.proofs.units.program.put_rewritten.Goals as goal
-
-pub returns : goal.returns
-returns c =
-    moved-put c.args.out.now.items c.collect_all.new.decls.items c.move_decls.new.list.items _ c.move_decls.result c.in_ok-collect_all.ensures c.move_decls.ensures

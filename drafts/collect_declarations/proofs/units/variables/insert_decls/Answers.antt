@@ -1,7 +1,0 @@
-use Rattle.std.proofs.Common.{rules}
-use Rattle.collect_declarations.proofs.units.Placed.{inserted}
-use Rattle.collect_declarations.proofs.units.variables.insert_decls.Goals as goal
-
-pub returns-in_ok-move_decls : goal.returns-in_ok-move_decls
-returns-in_ok-move_decls c =
-    inserted c.args.place _ c.args.decls.now.items c.rotate_left.new.self.items c.move_decls.new.list.items c.rotate_left-2.new.self.items c.args.more.now.items (search rules) c.rotate_left.ensures.items c.in_ok-move_decls.ensures c.rotate_left-2.ensures.items

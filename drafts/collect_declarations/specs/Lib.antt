@@ -1,2 +1,0 @@
-pub mod recorder
-pub mod units

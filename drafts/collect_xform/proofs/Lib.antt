@@ -1,4 +1,0 @@
-pub mod Finding
-pub mod Named
-pub mod Told
-pub mod Made

@@ -1,6 +1,0 @@
-mod Existing
-mod Placed
-mod Places
-mod Verdicts
-mod Files
-pub mod OneOutcome

@@ -1,3 +1,0 @@
-pub mod VariantsOutcomes
-pub mod ContinueOutcomes
-pub mod inner
