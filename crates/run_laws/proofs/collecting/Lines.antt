@@ -161,7 +161,7 @@ module _ {o : Original} (x : Setting o) (past : List Event) where
         P t = SeatAt x b' (ended_tasks answer b') d'.tasks (Noted c answer b') t
 
         at_c : P c
-        at_c = Telling teller.k (ended_same answer b' c below ∙ teller.at) refl m.own' teller.was
+        at_c = Telling teller.k (ended_same answer b' c below ∙ teller.at) (refl, teller.hears.2) m.own' teller.was
 
         at_each : (t : ℕ) → ((t == c) ≡ true) ⊎ ((t == s) ≡ true) → P t
         at_each t h = ⊎_elim (λ e. at_one P t c e at_c)

@@ -340,7 +340,7 @@ module _ {o : Original} (x : Setting o) (past : List Event) (r : Copy o.L) (d : 
         let of_r : (u : ℕ) → (w.tasks (recorder x)).standing ≡ Served u false → ⊥ = free_unserved (recorder x) recorder_live in
         let same : (u : ℕ) → b.met u ≡ (book_of r).met u = (λ u. ap (λ s. (book_of s).met u) (sym q)) in
         pair_acts c (recorder x) apart' in_c in_r y z (Recording b) (ap book_of (sym q)) (λ u m p f. of_c u m) (λ u m p f. of_r u)
-        (λ u k p f h. absurd (true≢false (sym (ap (λ v. v == c) (sym (subst (λ s. Hears x s u k) q h)) ∙ equal_self c) ∙ p)))
+        (λ u k p f h. absurd (true≢false (sym (ap (λ v. v == c) (sym (subst (λ s. Hears x s u k) q h).0) ∙ equal_self c) ∙ p)))
         (λ m. Free j (pair_last c (recorder x) apart' in_c in_r y z)
         (own_on x (book_of r) b w.tasks (pair_tasks c (recorder x) apart' in_c in_r y z) d.tasks d.tasks c j refl (same c)
         (pair_same c (recorder x) apart' in_c in_r y z b same c (of_c c l) (of_r c)) (λ u h. h)

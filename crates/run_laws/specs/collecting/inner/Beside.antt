@@ -62,7 +62,7 @@ module _ {o : Original} (x : Setting o) where
   heard (Writing c b note done left) k = k
   heard (Noted c answer b) k = answered o.p answer k
 
-  -- the recorder in the first state serves the task t, in this state
+  -- the recorder in the first state serves the task t, which in this state tells it
   abbrev pub Hears : Copy o.L → ℕ → Copy o.L → Type 0
   Hears (Based u l) t k = ⊥
   Hears (Calling u l) t k = ⊥
@@ -72,7 +72,7 @@ module _ {o : Original} (x : Setting o) where
   Hears Opening t k = ⊥
   Hears (Recording b) t k = ⊥
   Hears (Writing c b note done left) t k = (c ≡ t) × (note ≡ note_of o.p k) × (copy_offer o.p x.note k ≡ telling x.note)
-  Hears (Noted c answer b) t k = c ≡ t
+  Hears (Noted c answer b) t k = (c ≡ t) × (copy_offer o.p x.note k ≡ telling x.note)
 
   module _ (b : Book) (w : ℕ → Seat (Copy o.L)) (d : ℕ → Seat o.L) where
     -- The task c is at its call of the task a, in the state v, and is served here alone: in the original it is free, in the state m.

@@ -1,6 +1,0 @@
-use Rattle.normal_is_legal.proofs.placed.Placed.{legal_has_room, normal_is_placed}
-use Rattle.normal_is_legal.proofs.placed.Examples.{is_met}
-use Rattle.normal_is_legal.proofs.placed.laws.Goals as goal
-
-pub returns : goal.returns
-returns c = record { room = legal_has_room; placed = normal_is_placed; met = is_met }

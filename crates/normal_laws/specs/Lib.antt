@@ -1,0 +1,4 @@
+pub mod structure
+pub mod runs
+pub mod existence
+pub mod legality

@@ -1,6 +1,0 @@
-use Rattle.normal_runs.proofs.runs.Imitating.{normal_forms_show_same, normal_forms_are_calm}
-use Rattle.normal_runs.proofs.runs.Instance.{is_met}
-use Rattle.normal_runs.proofs.runs.laws.Goals as goal
-
-pub returns : goal.returns
-returns c = record { same = normal_forms_show_same; calm = normal_forms_are_calm; met = is_met }

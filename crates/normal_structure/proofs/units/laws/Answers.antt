@@ -1,9 +1,0 @@
-use Rattle.normal_structure.proofs.units.Tasks.{tasks_keep_numbers, entries_keep_formals}
-use Rattle.normal_structure.proofs.units.Bodies.{units_are_rewritten}
-use Rattle.normal_structure.proofs.units.Declared.{units_are_declared}
-use Rattle.normal_structure.proofs.units.Pairs.{names_tell_units}
-use Rattle.normal_structure.proofs.units.Examples.{is_met}
-use Rattle.normal_structure.proofs.units.laws.Goals as goal
-
-pub returns : goal.returns
-returns c = record { declared = units_are_declared; named = names_tell_units; tasks = tasks_keep_numbers; formals = entries_keep_formals; units = units_are_rewritten; met = is_met }
