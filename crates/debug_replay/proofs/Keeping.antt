@@ -1,6 +1,7 @@
 -- The text that is written replays the sequence, and else a limit is passed.
 use Rattle.std.proofs.Common.{◌≡◌, ◌<◌, ◌≤◌, ◌+◌, ◌^◌, ℕ, Bool, true, false, nat_lt, List, length, inl, inr, refl, sym, ap, ◌∙◌, subst, arith}
 use Rattle.std.proofs.lemmas.Bool.Decides.{nat_tests}
+use Rattle.common_lemmas.proofs.Numbers.{lt_is}
 use Rattle.ada_tree.specs.NameList.{predefined}
 use Rattle.ada_tree.specs.PlainProgram.{PProgram}
 use Rattle.ada_tree.specs.TypeTable.{TypeTable}
@@ -12,9 +13,10 @@ use Rattle.syn_event.specs.AllNumbers.{all_numbers}
 use Rattle.syn_event.specs.Legal.{Legal}
 use Rattle.syn_event.specs.Numbering.{Numbering}
 use Rattle.seq_file.specs.Files.{AreFit}
-use Rattle.normal_runs.specs.forms.Normalisable.{numbers_of}
-use Rattle.normalisable.specs.Laws.{IsLegalOriginal}
+use Rattle.normal_laws.specs.runs.forms.Normalisable.{numbers_of}
+use Rattle.normal_laws.specs.existence.Laws.{IsLegalOriginal}
 use Rattle.read_back.proofs.Whole.{read_back}
+use Rattle.replay_is_legal.specs.known.Laws.{AreKnown}
 use Rattle.replay_is_legal.proofs.names.Legal.{replay_is_as_promised}
 use Rattle.replay_model.specs.Promised.{IsReplayText}
 use Rattle.replay_model.specs.ReplayTree.{most_events, replay_tree, replayed}
@@ -26,14 +28,20 @@ use Rattle.debug_outcome.specs.files.Wanting.{text_limit}
 use Rattle.debug_outcome.specs.Outcomes.{Outcome}
 use Rattle.debug_sequence.specs.Sequences.{ReadsAs}
 use Rattle.debug_sequence.proofs.Sequences.{reads_fit}
-use Rattle.debug_replay.specs.inner.Printing.{printed_outcome, replay_outcome, ComeTo}
+use Rattle.debug_outcome.specs.Printing.{printed_outcome}
+use Rattle.debug_outcome.proofs.Lengths.{long_by_length, short_by_length}
+use Rattle.debug_replay.specs.inner.Printing.{replay_outcome, ComeTo}
 use Rattle.debug_replay.specs.ReplayOutcomes.{ReplaysLines}
 use Rattle.debug_replay.proofs.OwnTasks.{lists_for_all}
-use Rattle.debug_replay.proofs.TextOutcomes.{long_by_length, short_by_length, outcome_within, outcome_beyond}
+use Rattle.debug_replay.proofs.TextOutcomes.{outcome_within, outcome_beyond}
 
 -- the names of a text within the limit of a program have ids
 within_names : (n : ℕ) → n ≤ text_limit → length predefined + n ≤ 2 ^ 32
 within_names n short = omega (arith, short)
+
+-- a number that is not above another one
+at_most : (a b : ℕ) → nat_lt a b ≡ false → b ≤ a
+at_most a b h = grind (arith, nat_tests)
 
 -- What is so of a replay text, with the types and numbers that were found.
 record Holds (p : PProgram) (events : List Event) (types : TypeTable) (numbers : Numbering) : Type 0 where
@@ -41,8 +49,11 @@ record Holds (p : PProgram) (events : List Event) (types : TypeTable) (numbers :
   replays : ReplaysProgram p (replay_tree p types numbers events) events
 
 module _ (p : PProgram) (legal : IsLegalOriginal p) (lines : List ℕ) where
+  known : {events : List Event} → AreFit (numbers_of p) events → AreKnown p events
+  known fit = record { each = fit.known; few = fit.few }
+
   holds_own : (events : List Event) → AreFit (numbers_of p) events → Holds p events (types_in p) (numbers_of p)
-  holds_own events fit = record { is_text = replay_is_as_promised p events legal fit.known; replays = legal_texts_replay p events legal fit.known }
+  holds_own events fit = record { is_text = replay_is_as_promised p events legal (known fit); replays = legal_texts_replay p events legal (known fit) }
 
   holds : (types : TypeTable) (numbers : Numbering) → Legal p types numbers Original → (events : List Event) → AreFit numbers events → Holds p events types numbers
   holds types numbers own =
@@ -58,11 +69,11 @@ module _ (p : PProgram) (legal : IsLegalOriginal p) (lines : List ℕ) where
     printed : (events : List Event) (o : Outcome) → ReadsAs lines numbers p.names events → length events ≤ most_events → (b : Bool) →
         nat_lt text_limit (length (program_text (replay_tree p types numbers events))) ≡ b → o ≡ printed_outcome (replay_tree p types numbers events) → ReplaysLines p types numbers lines o
     printed events o reads few true h is =
-        let more : text_limit < length (program_text (replay_tree p types numbers events)) = grind (arith, nat_tests) in
+        let more : text_limit < length (program_text (replay_tree p types numbers events)) = lt_is text_limit (length (program_text (replay_tree p types numbers events))) h in
         inr (inl (record { events = events; reads = reads; limit = inr (few, more, is ∙ sym (long_by_length (replay_tree p types numbers events) more)) }))
     printed events o reads few false h is =
         let k : Holds p events types numbers = holds types numbers own events (fit events reads) in
-        let short : length (program_text (replay_tree p types numbers events)) ≤ text_limit = grind (arith, nat_tests) in
+        let short : length (program_text (replay_tree p types numbers events)) ≤ text_limit = at_most text_limit (length (program_text (replay_tree p types numbers events))) h in
         inl (record {
           events = events;
           reads = reads;
@@ -79,10 +90,10 @@ module _ (p : PProgram) (legal : IsLegalOriginal p) (lines : List ℕ) where
 
     within : (events : List Event) (o : Outcome) → ReadsAs lines numbers p.names events → (b : Bool) → nat_lt most_events (length events) ≡ b → o ≡ replay_outcome (replayed p types numbers events) → ReplaysLines p types numbers lines o
     within events o reads true h is =
-        let more : most_events < length events = grind (arith, nat_tests) in
+        let more : most_events < length events = lt_is most_events (length events) h in
         inr (inl (record { events = events; reads = reads; limit = inl (more, is ∙ outcome_beyond p types numbers events more) }))
     within events o reads false h is =
-        let few : length events ≤ most_events = grind (arith, nat_tests) in
+        let few : length events ≤ most_events = at_most most_events (length events) h in
         printed events o reads few _ refl (is ∙ outcome_within p types numbers events few)
 
     -- an outcome that the code comes to is one for which the lines call

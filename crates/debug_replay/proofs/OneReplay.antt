@@ -10,10 +10,11 @@ use Rattle.seq_file.specs.Lists.{list_count}
 use Rattle.seq_file.specs.Short.{IsShort}
 use Rattle.replay_model.specs.ReplayTree.{replay_tree, replayed}
 use Rattle.debug_outcome.specs.Outcomes.{Outcome}
+use Rattle.debug_outcome.proofs.Lengths.{long_by_length, short_by_length}
 use Rattle.debug_sequence.proofs.Sequences.{reads_as_unique, read_or_refused, one_refused}
 use Rattle.debug_replay.specs.inner.Printing.{replay_outcome, ComeTo}
 use Rattle.debug_replay.specs.ReplayOutcomes.{IsReplayWritten, PassesLimit, ReplaysLines}
-use Rattle.debug_replay.proofs.TextOutcomes.{long_by_length, short_by_length, outcome_within, outcome_beyond}
+use Rattle.debug_replay.proofs.TextOutcomes.{outcome_within, outcome_beyond}
 
 module _ (p : PProgram) (types : TypeTable) (numbers : Numbering) (lines : List ℕ) where
   within : (o : Outcome) → IsReplayWritten p types numbers lines o → ComeTo p types numbers lines o

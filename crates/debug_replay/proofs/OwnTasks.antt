@@ -18,7 +18,7 @@ use Rattle.syn_event.specs.Numbering.{Numbering, is_original_task}
 use Rattle.syn_event.specs.RuleReservedName.{has_mark}
 use Rattle.syn_event.proofs.Weaker.{placed_tokens}
 use Rattle.seq_file.specs.Lists.{list_count}
-use Rattle.normalisable.proofs.units.DeclaredNames.{IsGood, tasks-good}
+use Rattle.normal_laws.proofs.existence.units.DeclaredNames.{IsGood, tasks-good}
 
 -- of tasks whose names are left to no rewriter none is added
 none_added : (names : List (List ℕ)) (xs : List NumberedTask) → AllByRecursion (λ (i : TaskInfo). IsGood names i.name) (map (info_of_task names) xs) →

@@ -1,47 +1,22 @@
--- What the parts of replaying come to: the printed text, the limits, and the refusal of a sequence.
+-- What the parts of replaying come to: the limit of events, and the refusal of a sequence.
 use Rattle.std.proofs.Common.{◌≡◌, ◌<◌, ◌≤◌, ℕ, Bool, true, false, nat_lt, List, length, Result, Ok, Err, inl, inr, sym, ap, ◌∙◌, subst, arith}
-use Rattle.std.specs.Prelude.{◌⊎◌, min, if◌then◌else◌}
-use Rattle.ded_io.specs.Counts.{last_count}
+use Rattle.std.specs.Prelude.{◌⊎◌, if◌then◌else◌}
 use Rattle.ada_tree.specs.PlainProgram.{PProgram}
 use Rattle.ada_tree.specs.TypeTable.{TypeTable}
-use Rattle.ada_printer.specs.ProgramText.{program_text}
 use Rattle.event_machine.specs.declared.Event.{Event}
 use Rattle.syn_event.specs.Numbering.{Numbering}
 use Rattle.normal_form.specs.declared.errors.XformError.{XformError}
 use Rattle.normal_form.specs.declared.errors.XformError.TheVariants as error
 use Rattle.replay_model.specs.ReplayTree.{most_events, replay_tree, replayed}
-use Rattle.debug_outcome.specs.files.Wanting.{text_limit}
 use Rattle.debug_outcome.specs.Coming.{Stops, stop_by}
-use Rattle.debug_outcome.specs.Outcomes.{Outcome, writes, refuses}
-use Rattle.debug_outcome.specs.declared.refusal.Refusal.TheVariants.{LongText, TooMany}
+use Rattle.debug_outcome.specs.Outcomes.{Outcome, refuses}
+use Rattle.debug_outcome.specs.Printing.{printed_outcome}
+use Rattle.debug_outcome.specs.declared.refusal.Refusal.TheVariants.{TooMany}
 use Rattle.debug_outcome.specs.declared.refusal.Listed.TheVariants.{Events}
 use Rattle.debug_sequence.specs.Sequences.{ReadsAs}
-use Rattle.debug_replay.specs.inner.Printing.{printed_outcome, replay_outcome, ComeTo}
+use Rattle.debug_replay.specs.inner.Printing.{replay_outcome, ComeTo}
 use Rattle.debug_replay.specs.ReplayOutcomes.{refusal_of_replay}
 use Rattle.common_lemmas.proofs.Numbers.{lt_false, lt_true}
-
--- ---- the length of a text
-
-module _ (p : PProgram) where
-  pub long_text : nat_lt text_limit (length (program_text p)) ≡ true → refuses (LongText text_limit) ≡ printed_outcome p
-  long_text h = sym (ap (λ (b : Bool). if b then refuses (LongText text_limit) else writes (program_text p) 0) h)
-
-  pub short_text : nat_lt text_limit (length (program_text p)) ≡ false → writes (program_text p) 0 ≡ printed_outcome p
-  short_text h = sym (ap (λ (b : Bool). if b then refuses (LongText text_limit) else writes (program_text p) 0) h)
-
-  -- the same by the length that was counted
-  pub long_by : (n : ℕ) → n ≡ min (length (program_text p)) last_count → text_limit < n → refuses (LongText text_limit) ≡ printed_outcome p
-  long_by n counted more = long_text (lt_true text_limit (length (program_text p)) (omega (arith, counted, more)))
-
-  pub short_by : (n : ℕ) → n ≡ min (length (program_text p)) last_count → n ≤ text_limit → writes (program_text p) 0 ≡ printed_outcome p
-  short_by n counted less = short_text (lt_false text_limit (length (program_text p)) (omega (arith, counted, less)))
-
-  -- the same by the length itself
-  pub long_by_length : text_limit < length (program_text p) → refuses (LongText text_limit) ≡ printed_outcome p
-  long_by_length more = long_text (lt_true text_limit (length (program_text p)) more)
-
-  pub short_by_length : length (program_text p) ≤ text_limit → writes (program_text p) 0 ≡ printed_outcome p
-  short_by_length less = short_text (lt_false text_limit (length (program_text p)) less)
 
 -- ---- the number of events
 

@@ -7,14 +7,11 @@ ghost use Rattle.seq_file.specs.Lines.{is_upper_name};
 ghost use Rattle.debug_outcome.specs.Coming.{Comes, Never, stop_by};
 ghost use Rattle.syn_event.specs.declared.numbering.Mode.TheVariants.{Original};
 ghost use Rattle.syn_event.specs.Legal.{Legal};
-ghost use Rattle.normalisable.specs.Laws.{IsLegalOriginal};
-ghost use Rattle.debug_replay.specs.inner.Printing.{printed_outcome};
+ghost use Rattle.normal_laws.specs.existence.Laws.{IsLegalOriginal};
 ghost use Rattle.debug_replay.specs.ReplayOutcomes.{ReplaysLines, refusal_of_replay};
 
-use ada_printer::{print, text_len};
 use ada_tree::{Program, Types};
-use debug_outcome::files::TEXT_LIMIT;
-use debug_outcome::{Listed, Refusal, Stop};
+use debug_outcome::{Listed, Refusal, Stop, write_text};
 use debug_sequence::read_sequence;
 use ded_io::Sink;
 use normal_form::XformError;
@@ -45,21 +42,8 @@ pub fn write_replay<'w, K: Sink>(
         Err(stop) => return Err(stop),
     };
     match replay(alloc, program, types, numbers, &events) {
-        Ok(text) => put_text(&text, out),
+        Ok(text) => write_text(&text, out),
         Err(error) => Err(replay_failure(error)),
-    }
-}
-
-// Writes the text of a program, unless it is longer than a program that is run.
-fn put_text<'w, K: Sink>(text: &Program, out: &mut K) -> Result<u8, Stop<'w>>
-    ensures { Comes (λ o. o ≡ printed_outcome (plain_program text.now)) Never (K.told out.old) (K.told out.new) (K.faults out.old) (K.faults out.new) result }
-{
-    if text_len(text) > TEXT_LIMIT {
-        return Err(Stop::Refused(Refusal::LongText { limit: TEXT_LIMIT }));
-    }
-    match print(text, out) {
-        Ok(()) => Ok(0),
-        Err(_) => Err(Stop::OutputFailed),
     }
 }
 

@@ -14,14 +14,14 @@ use Rattle.syn_event.proofs.DeclLists.{every_listed}
 use Rattle.task_model.specs.Setting.{Setting}
 use Rattle.normal_model.specs.NormalStmts.{normal_body, unit_variables}
 use Rattle.normal_model.specs.NormalTree.{first_decls, unit_for, running, body_copy, bodies_of, variables_if, variables_of_body, greatest, variables_needed, main_variables}
-use Rattle.normal_structure.proofs.numbers.Listed as list
-use Rattle.normal_structure.specs.types.Own.{own_name}
-use Rattle.normal_structure.proofs.placed.Added.{unit-from}
-use Rattle.normal_structure.specs.checked.Around.{own_rules}
-use Rattle.normal_runs.specs.forms.Normalisable.{numbers_of, setting_for, made_for}
-use Rattle.normalisable.specs.Laws.{IsLegalOriginal}
-use Rattle.normal_is_legal.proofs.checks.Facts as facts
-use Rattle.normal_is_legal.proofs.checks.Copies.{CalleesBeside, bodies-beside}
+use Rattle.normal_laws.proofs.structure.numbers.Listed as list
+use Rattle.normal_laws.specs.structure.types.Own.{own_name}
+use Rattle.normal_laws.proofs.structure.placed.Added.{unit-from}
+use Rattle.normal_laws.specs.structure.checked.Around.{own_rules}
+use Rattle.normal_laws.specs.runs.forms.Normalisable.{numbers_of, setting_for, made_for}
+use Rattle.normal_laws.specs.existence.Laws.{IsLegalOriginal}
+use Rattle.normal_laws.proofs.legality.checks.Facts as facts
+use Rattle.normal_laws.proofs.legality.checks.Copies.{CalleesBeside, bodies-beside}
 use Rattle.replay_structure.proofs.declares_once.Ids.{IsOwn}
 use Rattle.replay_structure.proofs.checkable.Kept.{rules_of}
 use Rattle.replay_structure.proofs.checkable.KeptDecls.{tasks-rest, all-tasks-kept, copies-kept}

@@ -7,13 +7,13 @@ use Rattle.syn_event.specs.declared.numbering.Mode.TheVariants.{Original}
 use Rattle.syn_event.specs.Legal.{Legal}
 use Rattle.legal_programs.proofs.rewritten_types.Lookups.{place-all}
 use Rattle.legal_programs.specs.types.Typed.{IsSmall}
-use Rattle.normal_structure.specs.placed.Example.{passing}
-use Rattle.normal_structure.proofs.placed.Instance.{example_is_placeable}
-use Rattle.normalisable.specs.units.Weights.{IsLight}
-use Rattle.normal_runs.specs.forms.Normalisable.{numbers_of}
-use Rattle.normalisable.specs.Laws.{IsLegalOriginal}
-use Rattle.normalisable.proofs.Instance.{IsOther, small-other}
-use Rattle.normal_is_legal.proofs.Places.{places_meet}
+use Rattle.normal_laws.specs.structure.placed.Example.{passing}
+use Rattle.normal_laws.proofs.structure.placed.Instance.{example_is_placeable}
+use Rattle.normal_laws.specs.existence.units.Weights.{IsLight}
+use Rattle.normal_laws.specs.runs.forms.Normalisable.{numbers_of}
+use Rattle.normal_laws.specs.existence.Laws.{IsLegalOriginal}
+use Rattle.normal_laws.proofs.existence.Instance.{IsOther, small-other}
+use Rattle.normal_laws.proofs.legality.Places.{places_meet}
 use Rattle.replay_structure.specs.checked.Example.{example_events}
 use Rattle.replay_structure.proofs.checkable.Instance.{example_is_prepared}
 use Rattle.replay_is_legal.specs.Laws.{text_for, MeetsAtPlaces, IsHeld, IsMet}
@@ -43,7 +43,7 @@ unfolding digits
 text-meets = refl
 
 meets : MeetsAtPlaces passing example_events
-meets = record { kept = record { declared = example_is_prepared.declared; ends = example_is_prepared.ends }; places = (places_meet (text_for passing example_events) text-meets).0 }
+meets = record { kept = record { declared = example_is_prepared.declared; few = example_is_prepared.few_events }; places = (places_meet (text_for passing example_events) text-meets).0 }
 
 held : IsHeld passing example_events
 unfolding digits

@@ -18,20 +18,20 @@ use Rattle.task_model.specs.Setting.{Setting}
 use Rattle.normal_model.specs.Names.{variable_name, task_name}
 use Rattle.normal_model.specs.NormalTree.{first_decls, main_unit, main_variables, tasks_beside, variables_needed, variables_of_body, greatest}
 use Rattle.normal_model.specs.Ranges.{word_at}
-use Rattle.normalisable.proofs.units.TasksApart.{IsNamed}
-use Rattle.normal_structure.specs.types.Own.{own_name}
-use Rattle.normal_runs.specs.forms.Normalisable.{numbers_of, setting_for, made_for}
-use Rattle.normal_structure.proofs.placed.Names.{first-named}
-use Rattle.normal_structure.proofs.placed.Added.{AreSubtypes, AreVariablesFrom, unit-from}
-use Rattle.normal_structure.specs.checked.Around.{IsLiteralOf, is_false, is_true, is_enumerated}
-use Rattle.normal_is_legal.proofs.asked.Bodies.{main-asked}
-use Rattle.normal_is_legal.proofs.asked.Beside.{callees-beside}
-use Rattle.normal_is_legal.proofs.declares_once.Ids.{first-free}
-use Rattle.normalisable.specs.Laws.{IsLegalOriginal}
-use Rattle.normal_is_legal.proofs.scopes.Main.{named}
-use Rattle.normal_is_legal.proofs.checks.AroundBody.{place-there, kinds-there, has-value}
-use Rattle.normal_is_legal.proofs.checks.Facts as facts
-use Rattle.replay_model.specs.Names.{join_text}
+use Rattle.normal_laws.proofs.existence.units.TasksApart.{IsNamed}
+use Rattle.normal_laws.specs.structure.types.Own.{own_name}
+use Rattle.normal_laws.specs.runs.forms.Normalisable.{numbers_of, setting_for, made_for}
+use Rattle.normal_laws.proofs.structure.placed.Names.{first-named}
+use Rattle.normal_laws.proofs.structure.placed.Added.{AreSubtypes, AreVariablesFrom, unit-from}
+use Rattle.normal_laws.specs.structure.checked.Around.{IsLiteralOf, is_false, is_true, is_enumerated}
+use Rattle.normal_laws.proofs.legality.asked.Bodies.{main-asked}
+use Rattle.normal_laws.proofs.legality.asked.Beside.{callees-beside}
+use Rattle.normal_laws.proofs.legality.declares_once.Ids.{first-free}
+use Rattle.normal_laws.specs.existence.Laws.{IsLegalOriginal}
+use Rattle.normal_laws.proofs.legality.scopes.Main.{named}
+use Rattle.normal_laws.proofs.legality.checks.AroundBody.{place-there, kinds-there, has-value}
+use Rattle.normal_laws.proofs.legality.checks.Facts as facts
+use Rattle.replay_model.specs.Names.{join_text, operations_text, tasks_text, kinds_text, arguments_text, indices_text, counter_text}
 use Rattle.replay_structure.proofs.declares_once.Ids.{IsOwn}
 use Rattle.replay_structure.proofs.declares_once.Texts.{good-own, variable-own, task-own}
 use Rattle.replay_structure.specs.checked.Around.{meant_texts, kept_name}
@@ -39,7 +39,7 @@ use Rattle.replay_structure.proofs.checkable.Kept.{rules_of}
 use Rattle.replay_structure.proofs.checkable.KeptNames.{kept-by}
 use Rattle.replay_structure.proofs.checkable.KeptPieces.{KeepsNames}
 use Rattle.replay_structure.proofs.checkable.KeptDecls.{unit-kept, firsts-kept}
-use Rattle.normal_structure.proofs.placed.Made.{among}
+use Rattle.normal_laws.proofs.structure.placed.Made.{among}
 
 shorter : (f : List ℕ → Bool) (xs ys : List (List ℕ)) → list_any f (xs ++ ys) ≡ false → list_any f xs ≡ false
 shorter f [] ys h = refl
@@ -47,15 +47,19 @@ shorter f (x ∷ xs) ys h = let r = or_parts (f x) (list_any f (xs ++ ys)) h in 
 
 -- ---- names of a normal form
 
+-- what a replay text declares but in main and the bodies of the normal form
+abbrev later_texts : List (List ℕ)
+later_texts = join_text ∷ operations_text ∷ tasks_text ∷ kinds_text ∷ arguments_text ∷ indices_text ∷ counter_text ∷ []
+
 -- a name that no replay text adds is kept
 pub new-kept : (p : PProgram) (x : ℕ) → IsOwn (made_for p).names x → kept_name (made_for p) x ≡ true
 new-kept p x o = by_place (slice_get (made_for p).names x) refl o
   where
-    by_place : (s : Option (List ℕ)) → slice_get (made_for p).names x ≡ s → IsSomeAnd s (λ t. (list_any (bytes_eq t) (meant_texts ++ join_text ∷ []) || starts_with nat_eq t (codes "DED_S_")) ≡ false) → kept_name (made_for p) x ≡ true
+    by_place : (s : Option (List ℕ)) → slice_get (made_for p).names x ≡ s → IsSomeAnd s (λ t. (list_any (bytes_eq t) (meant_texts ++ later_texts) || starts_with nat_eq t (codes "DED_S_")) ≡ false) → kept_name (made_for p) x ≡ true
     by_place None e k = absurd k
     by_place (Some t) e k =
         kept-by (made_for p) (record { 0 = x }) (slice_get_within (made_for p).names x t e)
-        (ap (λ (s : Option (List ℕ)). list_any (bytes_eq (unwrap_or s [])) meant_texts) e ∙ shorter (bytes_eq t) meant_texts (join_text ∷ []) (or_parts (list_any (bytes_eq t) (meant_texts ++ join_text ∷ [])) (starts_with nat_eq t (codes "DED_S_")) k).0)
+        (ap (λ (s : Option (List ℕ)). list_any (bytes_eq (unwrap_or s [])) meant_texts) e ∙ shorter (bytes_eq t) meant_texts later_texts (or_parts (list_any (bytes_eq t) (meant_texts ++ later_texts)) (starts_with nat_eq t (codes "DED_S_")) k).0)
 
 -- Of a test that holds of the program's own names, and of those names of the normal form of which no replay text has one of its own.
 module _ (p : PProgram) (h : IsLegalOriginal p) (kept : ℕ → Bool) (old : (k : ℕ) → own_name p k ≡ true → kept k ≡ true) (new : (x : ℕ) → IsOwn (made_for p).names x → kept x ≡ true) where

@@ -1,11 +1,11 @@
 -- The replay text of a legal program is legal, where its places meet the rules.
 use Rattle.std.proofs.Common.{refl, sym}
 use Rattle.ada_static_rules.specs.Refusals.{types_in}
-use Rattle.normal_runs.specs.forms.Normalisable.{numbers_of}
-use Rattle.normal_is_legal.proofs.numbers.Numbered.{none_legal_is_ded}
-use Rattle.normal_is_legal.proofs.checks.Facts as facts
-use Rattle.normal_is_legal.proofs.checks.Joined.{normal_meets_checks}
-use Rattle.normal_is_legal.proofs.Places.{meets_by_places}
+use Rattle.normal_laws.specs.runs.forms.Normalisable.{numbers_of}
+use Rattle.normal_laws.proofs.legality.numbers.Numbered.{none_legal_is_ded}
+use Rattle.normal_laws.proofs.legality.checks.Facts as facts
+use Rattle.normal_laws.proofs.legality.checks.Joined.{normal_meets_checks}
+use Rattle.normal_laws.proofs.legality.Places.{meets_by_places}
 use Rattle.replay_model.specs.ReplayTree.{script_of, replay_of}
 use Rattle.replay_structure.proofs.texts.Numbered.{replay_numbered}
 use Rattle.replay_structure.proofs.checked.Whole.{replay_meets_checks}
@@ -36,4 +36,4 @@ replay_is_legal p events h met = record {
 }
 
 pub replay_is_as_promised : ReplayIsAsPromised
-replay_is_as_promised p events h met held = record { text = refl; legal = replay_is_legal p events h met; placed = all_legal_placed p events h held.small held.literals }
+replay_is_as_promised p events h met held = record { text = refl; legal = replay_is_legal p events h met; placed = all_legal_placed p events h held.small held.literals met.kept.few }

@@ -1,5 +1,5 @@
 -- What replay_checkable asks of a program and events is so of a legal program, but for what is left.
-use Rattle.std.proofs.Common.{◌≡◌, ℕ, zero, suc, ◌+◌, ◌<◌, ◌≤◌, ◌==◌, Bool, true, false, List, [], ◌∷◌, ◌++◌, length, map, slice_get, is_some, refl, sym, ap, subst, ◌∙◌, eqb-true, true≢false, arith, lit<}
+use Rattle.std.proofs.Common.{◌≡◌, ℕ, suc, ◌+◌, ◌≤◌, ◌==◌, Bool, true, false, List, [], ◌∷◌, ◌++◌, length, map, drop, is_some, refl, sym, ap, subst, ◌∙◌, eqb-true, true≢false, arith, lit<}
 use Rattle.std.specs.List.{AllByRecursion, list_any}
 use Rattle.std.proofs.lemmas.Bool.{or_from}
 use Rattle.std.proofs.lemmas.List.{length-map}
@@ -23,21 +23,21 @@ use Rattle.syn_event.specs.declared.numbering.TaskInfo.{TaskInfo}
 use Rattle.task_model.specs.Setting.{Setting}
 use Rattle.legal_programs.specs.rewritten_types.Rewriting.{IsUnused, DeclareOnce}
 use Rattle.legal_programs.proofs.rewritten_types.Refused.{declared_once}
-use Rattle.normal_model.specs.Names.{variable_name, task_name, task_name_at, name_of_task}
+use Rattle.normal_model.specs.Names.{variable_name, task_name}
 use Rattle.normal_model.specs.NormalTree.{first_decls, unless_left, mark_of, main_unit}
-use Rattle.normal_structure.proofs.types.Variables.{unit-all}
-use Rattle.normal_structure.proofs.numbers.Listed as list
-use Rattle.normal_structure.proofs.numbers.Tasked.{under, normal-tasks-of}
-use Rattle.normal_runs.specs.forms.Normalisable.{numbers_of, setting_for, made_for}
-use Rattle.normalisable.specs.Laws.{IsLegalOriginal}
-use Rattle.normal_structure.specs.asked.Pieces.{IsAmong, first_among, later_among}
-use Rattle.normal_is_legal.proofs.declares_once.Ids.{variable-new, new-not-predefined}
+use Rattle.normal_laws.proofs.structure.types.Variables.{unit-all}
+use Rattle.normal_laws.proofs.structure.numbers.Listed as list
+use Rattle.normal_laws.proofs.structure.numbers.Tasked.{under, normal-tasks-of}
+use Rattle.normal_laws.specs.runs.forms.Normalisable.{numbers_of, setting_for, made_for}
+use Rattle.normal_laws.specs.existence.Laws.{IsLegalOriginal}
+use Rattle.normal_laws.specs.structure.asked.Pieces.{IsAmong, first_among, later_among}
+use Rattle.normal_laws.proofs.legality.declares_once.Ids.{variable-new, new-not-predefined}
 use Rattle.replay_is_legal.proofs.fits.Counted.{tasks-within}
-use Rattle.normal_is_legal.proofs.checks.Facts as facts
-use Rattle.normal_is_legal.proofs.checks.Counts as counts
+use Rattle.normal_laws.proofs.legality.checks.Facts as facts
+use Rattle.normal_laws.proofs.legality.checks.Counts as counts
 use Rattle.replay_structure.specs.checked.Around.{kept_name}
-use Rattle.replay_structure.specs.checked.Checkable.{IsOtherThanTruth, entries_count}
-use Rattle.replay_structure.specs.checkable.Prepared.{form_for, IsBesideMain}
+use Rattle.replay_structure.specs.checked.Checkable.{IsOtherThanTruth, entries_count, IsBeside}
+use Rattle.replay_structure.specs.checkable.Prepared.{form_for}
 use Rattle.replay_structure.proofs.checkable.KeptNames.{own-kept}
 use Rattle.replay_is_legal.proofs.Kept.{new-kept, main-kept}
 use Rattle.replay_is_legal.specs.Laws.{LegalIsPrepared}
@@ -136,7 +136,7 @@ module _ (p : PProgram) (h : IsLegalOriginal p) where
   tasks-are : tasks_of n ≡ map (under g) ys
   tasks-are = normal-tasks-of p T (facts.ordered p h)
 
-  few-tasks : length (tasks_of n) ≤ 200
+  pub few-tasks : length (tasks_of n) ≤ 200
   few-tasks =
       let within : length (numbers_of p).tasks ≤ 201 = tasks-within p h.legal.check_rules in
       let same : length (numbers_of p).tasks ≡ suc (length ys) = ap (λ m. suc m) (length-map ys _) in
@@ -162,18 +162,12 @@ module _ (p : PProgram) (h : IsLegalOriginal p) where
   infos-apart [] k = tt
   infos-apart (z ∷ zs) k = (k (info_of_task p.names z) (first_among (map (info_of_task p.names) zs)), infos-apart zs (λ i a. k i (later_among (info_of_task p.names z) (map (info_of_task p.names) zs) a)))
 
-  name-apart : (zs : List NumberedTask) → AllByRecursion IsApart zs → (k : ℕ) → k < length zs →
-      ((name_of_task (form_for p) (slice_get (map (λ task. task_info n.names task.name.name) (map (under g) zs)) k)).0 == p.name.name.0) ≡ false
-  name-apart [] a k l = absurd (omega (arith, l))
-  name-apart (z ∷ zs) a zero l = a.0
-  name-apart (z ∷ zs) a (suc k) l = name-apart zs a.1 k (omega (arith, l))
+  tasks-apart : (zs : List NumberedTask) → AllByRecursion IsApart zs → AllByRecursion (IsBeside n) (map (λ (task : PTask). task_info n.names task.name.name) (map (under g) zs))
+  tasks-apart [] a = tt
+  tasks-apart (z ∷ zs) a = (a.0, tasks-apart zs a.1)
 
-  apart : (t : ℕ) → IsBesideMain p t → ((task_name_at (form_for p) t).0 == p.name.name.0) ≡ false
-  apart zero b = let never : ⊥ = omega (arith, b.low) in absurd never
-  apart (suc k) b =
-      let same : length (numbers_of p).tasks ≡ suc (length ys) = ap (λ m. suc m) (length-map ys _) in
-      subst (λ (l : List PTask). ((name_of_task (form_for p) (slice_get (map (λ task. task_info n.names task.name.name) l) k)).0 == p.name.name.0) ≡ false) (sym tasks-are)
-      (name-apart ys (infos-apart ys (facts.apart p h)) k (omega (arith, same, b.high)))
+  apart : AllByRecursion (IsBeside n) (drop 1 (form_for p).numbers.tasks)
+  apart = subst (λ (l : List PTask). AllByRecursion (IsBeside n) (map (λ (task : PTask). task_info n.names task.name.name) l)) (sym tasks-are) (tasks-apart ys (infos-apart ys (facts.apart p h)))
 
 pub legal_is_prepared : LegalIsPrepared
 legal_is_prepared p events h kept = record {
@@ -188,5 +182,6 @@ legal_is_prepared p events h kept = record {
   few_tasks = few-tasks p h;
   few_entries = few-entries p h;
   apart = apart p h;
-  ends = kept.ends;
+  few_events = kept.few;
+  few_numbered = tasks-within p h.legal.check_rules;
 }

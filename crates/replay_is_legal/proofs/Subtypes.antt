@@ -28,18 +28,18 @@ use Rattle.task_model.specs.Setting.{Setting, formals_of_info}
 use Rattle.normal_model.specs.Ranges.{marked, subtype_of_range, array_range, range_of_info, family_range}
 use Rattle.normal_model.specs.Calls.{Slot, slots_of}
 use Rattle.legal_programs.specs.alike_scopes.Old.{IsOldSubind}
-use Rattle.normal_structure.specs.types.Own.{own_name}
-use Rattle.normal_structure.proofs.placed.Added.{AreSubtypes}
-use Rattle.normalisable.proofs.variable_types.Numbers.{EntryRule, IsRuled, IsEntryOf, entry-of, formals-are, range-is}
-use Rattle.normalisable.proofs.variable_types.Subtypes.{RangeEvery}
-use Rattle.normal_structure.specs.checked.Around.{own_rules}
-use Rattle.normal_runs.specs.forms.Normalisable.{numbers_of, setting_for, made_for}
-use Rattle.normalisable.specs.Laws.{IsLegalOriginal}
-use Rattle.normal_is_legal.specs.scopes.Plain.{plain_name}
-use Rattle.normal_is_legal.proofs.scopes.Names.{plain-own}
-use Rattle.normal_is_legal.proofs.typed_declarations.Variables.{subtypes-good}
-use Rattle.normal_is_legal.proofs.typed_declarations.Joined.{program-rules}
-use Rattle.normal_is_legal.proofs.checks.Facts as facts
+use Rattle.normal_laws.specs.structure.types.Own.{own_name}
+use Rattle.normal_laws.proofs.structure.placed.Added.{AreSubtypes}
+use Rattle.normal_laws.proofs.existence.variable_types.Numbers.{EntryRule, IsRuled, IsEntryOf, entry-of, formals-are, range-is}
+use Rattle.normal_laws.proofs.existence.variable_types.Subtypes.{RangeEvery}
+use Rattle.normal_laws.specs.structure.checked.Around.{own_rules}
+use Rattle.normal_laws.specs.runs.forms.Normalisable.{numbers_of, setting_for, made_for}
+use Rattle.normal_laws.specs.existence.Laws.{IsLegalOriginal}
+use Rattle.normal_laws.specs.legality.scopes.Plain.{plain_name}
+use Rattle.normal_laws.proofs.legality.scopes.Names.{plain-own}
+use Rattle.normal_laws.proofs.legality.typed_declarations.Variables.{subtypes-good}
+use Rattle.normal_laws.proofs.legality.typed_declarations.Joined.{program-rules}
+use Rattle.normal_laws.proofs.legality.checks.Facts as facts
 use Rattle.replay_structure.proofs.declares_once.Ids.{IsOwn}
 use Rattle.replay_structure.proofs.checkable.Kept.{rules_of, drange-kept}
 use Rattle.replay_structure.proofs.checkable.KeptDecls.{HasRest, tasks-rest}

@@ -1,5 +1,5 @@
 -- The law that the replay texts of a legal program are legal as texts of any kind.
-use Rattle.std.specs.Prelude.{◌≡◌, List}
+use Rattle.std.specs.Prelude.{◌≡◌, ◌≤◌, List, length}
 use Rattle.std.specs.List.{AllByRecursion}
 use Rattle.event_machine.specs.declared.Event.{Event}
 use Rattle.ada_tree.specs.PlainProgram.{PProgram}
@@ -11,10 +11,10 @@ use Rattle.syn_event.specs.CheckRefusals.{MeetsCheckRules}
 use Rattle.syn_event.specs.Legal.{Legal}
 use Rattle.syn_event.specs.DeclaredTasks.{decl_list}
 use Rattle.control_script.specs.declared.Op.{Op}
-use Rattle.normal_structure.specs.placed.Example.{passing}
-use Rattle.normal_runs.specs.forms.Normalisable.{numbers_of, made_for}
-use Rattle.normalisable.specs.Laws.{IsLegalOriginal}
-use Rattle.normal_is_legal.specs.Laws.{MeetsButOnce}
+use Rattle.normal_laws.specs.structure.placed.Example.{passing}
+use Rattle.normal_laws.specs.runs.forms.Normalisable.{numbers_of, made_for}
+use Rattle.normal_laws.specs.existence.Laws.{IsLegalOriginal}
+use Rattle.normal_laws.specs.legality.Laws.{MeetsButOnce}
 use Rattle.replay_model.specs.Promised.{HasLiteral, IsReplayText}
 use Rattle.replay_model.specs.ReplayNumbers.{replay_numbers}
 use Rattle.replay_model.specs.ReplayTree.{script_of, replay_of, replay_tree}
@@ -22,7 +22,7 @@ use Rattle.replay_structure.specs.placed.Placeable.{HasSmallIndices}
 use Rattle.replay_structure.specs.checked.Around.{kept_names}
 use Rattle.replay_structure.specs.checked.Checkable.{IsCheckable}
 use Rattle.replay_structure.specs.checked.Example.{example_events}
-use Rattle.replay_structure.specs.checkable.Prepared.{form_for, IsBesideMain, EndsBeside, IsPrepared}
+use Rattle.replay_structure.specs.checkable.Prepared.{form_for, IsPrepared}
 
 -- the replay text of a program and a sequence
 abbrev pub text_for : PProgram → List Event → PProgram
@@ -41,10 +41,10 @@ abbrev pub LegalReplayMeetsChecks : Type 0
 LegalReplayMeetsChecks = (p : PProgram) (ops : List Op) → IsLegalOriginal p → IsCheckable (form_for p) ops → MeetsCheckRules (replay_of (form_for p) ops) Any
 
 -- What is left of what the rules 13 to 23 ask: the names in the declarations of the normal form are kept in the text, nothing is nested deeper than
--- 100 there, and the events tell of the ends of tasks beside main alone.
+-- 100 there, and there are at most 200,000 events.
 pub record AreKept (p : PProgram) (events : List Event) : Type 0 where
   pub declared : AllByRecursion (EveryDecl (kept_names (made_for p))) (decl_list (made_for p).decls)
-  pub ends : AllByRecursion (EndsBeside (IsBesideMain p)) events
+  pub few : length events ≤ 200000
 
 -- A legal program with such events is prepared as `replay_structure: checkable` asks.
 abbrev pub LegalIsPrepared : Type 0

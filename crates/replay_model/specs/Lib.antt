@@ -4,6 +4,7 @@ pub mod Serving
 pub mod Calling
 pub mod Waiting
 pub mod ReplayStmts
+pub mod tables
 pub mod Controlling
 pub mod ReplayTree
 pub mod ReplayNumbers

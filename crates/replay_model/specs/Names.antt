@@ -53,6 +53,26 @@ never_text = codes "DED_NEVER"
 abbrev pub join_text : List ℕ
 join_text = codes "DED_JOIN"
 
+-- the tables of the controller: what each operation is, its task, and the kind, the argument and the index of a permit
+abbrev pub operations_text : List ℕ
+operations_text = codes "DED_OPS"
+
+abbrev pub tasks_text : List ℕ
+tasks_text = codes "DED_TS"
+
+abbrev pub kinds_text : List ℕ
+kinds_text = codes "DED_KS"
+
+abbrev pub arguments_text : List ℕ
+arguments_text = codes "DED_AS"
+
+abbrev pub indices_text : List ℕ
+indices_text = codes "DED_IS"
+
+-- its loop parameter, which counts the turns from 1
+abbrev pub counter_text : List ℕ
+counter_text = codes "DED_N"
+
 -- The double of an entry E is named DED_S_E.
 abbrev pub double_text : List ℕ → List ℕ
 double_text entry = codes "DED_S_" ++ entry
@@ -61,7 +81,8 @@ double_text entry = codes "DED_S_" ++ entry
 
 abbrev pub added_texts : List (List ℕ)
 added_texts =
-    kind_text ∷ argument_text ∷ index_text ∷ control_text ∷ go_text ∷ done_text ∷ hold_text ∷ idle_text ∷ stop_text ∷ rest_text ∷ never_text ∷ join_text ∷ []
+    kind_text ∷ argument_text ∷ index_text ∷ control_text ∷ go_text ∷ done_text ∷ hold_text ∷ idle_text ∷ stop_text ∷ rest_text ∷ never_text ∷ join_text
+    ∷ operations_text ∷ tasks_text ∷ kinds_text ∷ arguments_text ∷ indices_text ∷ counter_text ∷ []
 
 -- the names of the doubles of a task's entries, in order
 abbrev pub double_texts : List (List ℕ) → PTask → List (List ℕ)

@@ -110,7 +110,7 @@ replay_tree p types numbers events = replay_of (normal_setting p types numbers) 
 
 -- a sequence that is replayed has at most so many events
 abbrev pub most_events : ℕ
-most_events = 20000
+most_events = 200000
 
 -- The replay text, or the limit, where there are more events.
 abbrev pub replayed : PProgram → TypeTable → Numbering → List Event → Result PProgram ℕ

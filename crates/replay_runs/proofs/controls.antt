@@ -1,7 +1,6 @@
 pub mod Starts
 pub mod Offers
-pub mod Hearing
-pub mod Granting
 pub mod Joining
+pub mod Controllers
 pub mod Imitating
 pub mod Asking

@@ -1,6 +1,7 @@
 pub mod Laws
 pub mod Imitating
 pub mod Asking
+pub mod bodies
 pub mod translated
 pub mod permits
 pub mod images

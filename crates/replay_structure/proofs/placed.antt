@@ -2,6 +2,7 @@ pub mod Moved
 pub mod Tests
 pub mod Made
 pub mod Named
+pub mod Said
 pub mod Controlled
 pub mod Declared
 pub mod Scripted

@@ -7,6 +7,7 @@ pub mod Scopes
 pub mod Objects
 pub mod Bodies
 pub mod Added
+pub mod Moved
 pub mod Main
 pub mod Whole
 pub mod Examples

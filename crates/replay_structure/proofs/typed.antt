@@ -6,3 +6,5 @@ pub mod Scopes
 pub mod Typed
 pub mod Control
 pub mod Declared
+pub mod Tables
+pub mod Turning

@@ -1,5 +1,5 @@
 -- The replay text of a program is that of its normal form.
-use Rattle.std.proofs.Common.{◌≡◌, nat_lt, false, List, length, if◌then◌else◌, Result, Ok, Err, IfOk, sym, ap, ◌∙◌, subst}
+use Rattle.std.proofs.Common.{◌≡◌, nat_lt, false, List, length, if◌then◌else◌, Result, Ok, Err, IfOk, sym, ap, ◌∙◌}
 use Rattle.ada_tree.specs.declared.whole.Program.{Program}
 use Rattle.ada_tree.specs.PlainProgram.{PProgram, plain_program}
 use Rattle.ada_tree.specs.TypeTable.{TypeTable}
@@ -10,8 +10,6 @@ use Rattle.task_model.specs.Setting.{Setting}
 use Rattle.normal_model.specs.NormalTree.{normal_tree}
 use Rattle.normal_model.specs.NormalNumbers.{normal_numbers}
 use Rattle.replay_model.specs.ReplayTree.{most_events, normal_setting, replay_of, replay_tree, replayed}
-use Rattle.replay_declarations.specs.ids.Looking.{AreSingle}
-use Rattle.replay_declarations.proofs.ids.Single.{single}
 
 -- the text of one setting is that of another that is the same
 pub same-text :
@@ -34,9 +32,6 @@ pub setting-is :
 setting-is p q types numbers renumbered made numbered =
     let all = numbered ∙ ap (λ x. normal_numbers x numbers) made in
     λ i. record { program = made i; types = types; numbers = all i }
-
-pub single-made : (p : PProgram) (types : TypeTable) (numbers : Numbering) (g : Setting) → g ≡ normal_setting p types numbers → AreSingle g
-single-made p types numbers g same = subst AreSingle (sym same) (single p types numbers)
 
 pub text-is :
     (p : PProgram) (types : TypeTable) (numbers : Numbering) (events : List Event) (text : PProgram) →

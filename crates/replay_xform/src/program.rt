@@ -3,7 +3,6 @@
 ghost use Rattle.std.specs.Prelude.{◌≡◌, ◌⊎◌, nat_lt, length, true, Err, Ok, IfOk, IfErr};
 ghost use Rattle.ada_tree.specs.PlainProgram.{plain_program};
 ghost use Rattle.normal_form.specs.declared.errors.XformError.TheVariants as errors;
-ghost use Rattle.replay_declarations.specs.ids.Looking.{AreSingle};
 ghost use Rattle.replay_model.specs.ReplayTree.{most_events, replay_of, replay_tree, replayed, script_of};
 
 use crate::text::replay_sequence;
@@ -16,7 +15,7 @@ use syn_event::Numbers;
 use task_links::Links;
 
 /// A sequence that is replayed has at most so many events.
-const MOST_EVENTS: u32 = 20_000;
+const MOST_EVENTS: u32 = 200_000;
 
 // The replay text of the normal form `q`, whose numbers are `renumbered`; the events have the numbers of the program.
 fn replay_normal(
@@ -27,7 +26,6 @@ fn replay_normal(
     numbers: &Numbers,
     events: &[Event],
 ) -> Result<Program, Memory>
-    requires { AreSingle (record { program = plain_program q.now; types = types.now; numbers = renumbered.now }) }
     ensures { IfOk result (λ text. plain_program text ≡ replay_of (record { program = plain_program q.now; types = types.now; numbers = renumbered.now }) (script_of numbers.now events.now)) }
 {
     let links = Links::new(alloc, q, types, renumbered)?;

@@ -33,7 +33,7 @@ use Rattle.same_runs.specs.Laws.{IsNameTable, IsNamed}
 use Rattle.same_runs.specs.Renamed.{IsRenaming, KeepsTexts, no_span, renamed_program, renamed_types}
 use Rattle.same_runs.specs.RenamedTasks.{names_for, renamed_numbers, renamed_setting, renamed_task_info}
 use Rattle.task_laws.proofs.invariants.Beginning.{length_first}
-use Rattle.normal_runs.specs.forms.Normalisable.{numbers_of}
+use Rattle.normal_laws.specs.runs.forms.Normalisable.{numbers_of}
 use Rattle.replay_runs.specs.controls.replayed.Replaying.{starting}
 
 some_of : {A : Type 0} (P : A → Type 0) (o : Option A) → IsSomeAnd o P → (x : A) × (o ≡ Some x)

@@ -11,7 +11,7 @@ use Rattle.same_runs.proofs.Named.{table_of, text_named}
 use Rattle.same_runs.proofs.Programs.{meant_same, programs_run_alike}
 use Rattle.same_runs.specs.Alike.{RunAlike}
 use Rattle.same_runs.specs.Laws.{ReadTextReplays, SameAreFeasible, SameReplays, SameRunAlike}
-use Rattle.normal_runs.specs.forms.Normalisable.{numbers_of}
+use Rattle.normal_laws.specs.runs.forms.Normalisable.{numbers_of}
 use Rattle.replay_runs.specs.controls.replayed.Replaying.{GoesOnWith, IsFeasible, IsOver, IsRunWith, Replays, ShowsAllFeasible, ShowsPrefix, shown, starting}
 
 -- feasible in the one, and so in the other

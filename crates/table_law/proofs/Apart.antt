@@ -9,8 +9,8 @@ use Rattle.common_lemmas.proofs.Numbers.{lt_true, unequal}
 use Rattle.common_lemmas.proofs.Truth.{and_both, not_true, or_both}
 use Rattle.ada_tree.specs.declared.naming.NameId.{NameId}
 use Rattle.normal_model.specs.Names.{id_of}
-use Rattle.replay_model.specs.Names.{kind_text, argument_text, index_text}
-use Rattle.table_law.specs.ControlTexts.{operations_text, tasks_text, kinds_text, arguments_text, indices_text, counter_text, control_texts, with_control_names}
+use Rattle.replay_model.specs.Names.{kind_text, argument_text, index_text, operations_text, tasks_text, kinds_text, arguments_text, indices_text, counter_text}
+use Rattle.replay_model.specs.tables.ControlTexts.{control_texts, with_control_names}
 use Rattle.table_law.proofs.Interned.{Has, all-there, place-longer}
 use Rattle.table_law.specs.Controllers.{AreApart}
 use Rattle.table_law.specs.Laws.{ControlNamesAreApart, ControlNamesAreThere}

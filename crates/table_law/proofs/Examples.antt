@@ -2,7 +2,7 @@
 use Rattle.std.proofs.Common.{◌≡◌, ℕ, zero, suc, [], ◌∷◌, ◌++◌, codes, slice_get, drop, Some, refl, subst, arith}
 use Rattle.common_lemmas.proofs.Options.{some_same, not_missing}
 use Rattle.syn_event.specs.declared.numbering.TaskInfo.{TaskInfo}
-use Rattle.table_law.specs.ControlTexts.{with_control_names}
+use Rattle.replay_model.specs.tables.ControlTexts.{with_control_names}
 use Rattle.ada_tree.specs.NameList.{predefined}
 use Rattle.table_law.specs.Controllers.{HasJoin, IsController, CanMakeAll}
 use Rattle.table_law.specs.Examples.{names, controller, entries, operations, own_tasks}

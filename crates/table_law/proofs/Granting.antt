@@ -22,8 +22,8 @@ use Rattle.control_script.specs.declared.Op.{Op}
 use Rattle.control_script.specs.declared.Op.TheVariants.{Go, Done}
 use Rattle.normal_model.specs.Making.{one}
 use Rattle.normal_model.specs.Ranges.{word_at}
-use Rattle.table_law.specs.declared.columns.Column.TheVariants.{Task as TaskColumn, Kind, Argument, Index}
-use Rattle.table_law.specs.Turns.{line_of, part_given, given, going, hearing}
+use Rattle.replay_model.specs.declared.tables.columns.Column.TheVariants.{Task as TaskColumn, Kind, Argument, Index}
+use Rattle.replay_model.specs.tables.Turns.{line_of, part_given, given, going, hearing}
 use Rattle.table_law.specs.Controllers.{Controller, Entries, IsController, CanMakeAll}
 use Rattle.table_law.specs.States.{standing, turn_variables, behind_loop, turn_frame, turning, before, permit_object, go_parameters, permit_variables, granting, heard, LeadsTo}
 use Rattle.table_law.proofs.Found.{found, set}

@@ -45,6 +45,19 @@ pub all-there : (us names : List (List ℕ)) → AllByRecursion (Has (fold inter
 all-there [] names = tt
 all-there (u ∷ us) names = (has-fold us (interned names u) u (has-self names u), all-there us (interned names u))
 
+-- those too that were interned in front of others
+pub first-there : (us vs names : List (List ℕ)) → AllByRecursion (Has (fold interned names (us ++ vs))) us
+first-there us vs names = subst (λ ns. AllByRecursion (Has ns) us) (sym (fold-append interned names us vs)) (kept us (all-there us names))
+  where
+    kept : (ts : List (List ℕ)) → AllByRecursion (Has (fold interned names us)) ts → AllByRecursion (Has (fold interned (fold interned names us) vs)) ts
+    kept [] there = tt
+    kept (t ∷ ts) there = (has-fold vs (fold interned names us) t there.0, kept ts there.1)
+
+-- where texts that are there are interned again, the names stay as they are
+pub none-new : (ts names : List (List ℕ)) → AllByRecursion (Has names) ts → fold interned names ts ≡ names
+none-new [] names there = refl
+none-new (t ∷ ts) names there = ap (λ ns. fold interned ns ts) (interned-there names t there.0) ∙ none-new ts names there.1
+
 -- ---- ids
 
 -- the first place of what passes, of a list whose first element passes or not
@@ -69,21 +82,24 @@ place-longer p (x ∷ xs) ys h = by (p x) refl h (place-longer p xs ys)
 abbrev found : ℕ → Bool → NameId
 found n b = record { 0 = unwrap_or (cond b (Some n) None) 0 }
 
--- a text that is there keeps its id where another one is interned
+-- a text that is there keeps its id where more follows
+pub id-longer : (names more : List (List ℕ)) (t : List ℕ) → Has names t → id_of (names ++ more) t ≡ id_of names t
+id-longer names more t h =
+    let l = place-longer (bytes_eq t) names more h in
+    let place : ℕ = position_or_len (bytes_eq t) names in
+    let old : nat_lt place (length names) ≡ true = lt_true place (length names) l.1 in
+    let new : nat_lt place (length (names ++ more)) ≡ true = lt_true place (length (names ++ more)) l.2 in
+    let first : id_of (names ++ more) t ≡ found place true = ap (λ (n : ℕ). found n (nat_lt n (length (names ++ more)))) l.0 ∙ ap (found place) new in
+    let same : found place true ≡ id_of names t = ap (found place) (sym old) in
+    first ∙ same
+
+-- and where another one is interned
 pub id-stays : (names : List (List ℕ)) (t u : List ℕ) → Has names t → id_of (interned names u) t ≡ id_of names t
 id-stays names t u h = by (list_any (bytes_eq u) names) refl
   where
     by : (b : Bool) → list_any (bytes_eq u) names ≡ b → id_of (interned names u) t ≡ id_of names t
     by true e = ap (λ ns. id_of ns t) (interned-there names u e)
-    by false e =
-        let l = place-longer (bytes_eq t) names (u ∷ []) h in
-        let place : ℕ = position_or_len (bytes_eq t) names in
-        let old : nat_lt place (length names) ≡ true = lt_true place (length names) l.1 in
-        let new : nat_lt place (length (names ++ u ∷ [])) ≡ true = lt_true place (length (names ++ u ∷ [])) l.2 in
-        let longer : id_of (interned names u) t ≡ id_of (names ++ u ∷ []) t = ap (λ ns. id_of ns t) (interned-new names u e) in
-        let first : id_of (names ++ u ∷ []) t ≡ found place true = ap (λ (n : ℕ). found n (nat_lt n (length (names ++ u ∷ [])))) l.0 ∙ ap (found place) new in
-        let same : found place true ≡ id_of names t = ap (found place) (sym old) in
-        longer ∙ first ∙ same
+    by false e = ap (λ ns. id_of ns t) (interned-new names u e) ∙ id-longer names (u ∷ []) t h
 
 ids-stay : (ts names : List (List ℕ)) (u : List ℕ) → AllByRecursion (Has names) ts → map (id_of (interned names u)) ts ≡ map (id_of names) ts
 ids-stay [] names u h = refl

@@ -9,4 +9,5 @@ pub mod Joining
 pub mod Starting
 pub mod Making
 pub mod Apart
+pub mod Added
 pub mod Examples

@@ -12,10 +12,10 @@ use Rattle.ada_value.specs.Values.{and_then, place_in}
 use Rattle.ada_value.specs.Variables.{Object, Variables, object_named, value_there}
 use Rattle.ada_value.specs.Evaluating.{evaluated, name_value, component_value}
 use Rattle.control_script.specs.declared.Op.{Op}
-use Rattle.table_law.specs.declared.columns.Column.{Column}
-use Rattle.table_law.specs.declared.columns.Column.TheVariants.{Operation, Task, Kind, Argument, Index}
-use Rattle.table_law.specs.Columns.{says, table_name}
-use Rattle.table_law.specs.Turns.{line_of}
+use Rattle.replay_model.specs.declared.tables.columns.Column.{Column}
+use Rattle.replay_model.specs.declared.tables.columns.Column.TheVariants.{Operation, Task, Kind, Argument, Index}
+use Rattle.replay_model.specs.tables.Columns.{says, table_name}
+use Rattle.replay_model.specs.tables.Turns.{line_of}
 use Rattle.table_law.specs.Controllers.{Controller, Entries, IsController}
 use Rattle.table_law.specs.States.{table_object, tables, counter, turn_variables, permit_variables}
 use Rattle.table_law.proofs.Found.{first-named, found}

@@ -10,9 +10,9 @@ use Rattle.task_model.specs.Rendezvous.{finished, pending_of, finals_of}
 use Rattle.control_script.specs.declared.Op.{Op}
 use Rattle.control_script.specs.declared.Op.TheVariants.{Go, Done, Join, Hold}
 use Rattle.ada_tree.specs.PlainStmt.{no_stmt}
-use Rattle.table_law.specs.declared.columns.Column.TheVariants.{Task as TaskColumn}
-use Rattle.table_law.specs.Columns.{acts, holds}
-use Rattle.table_law.specs.Turns.{line_of}
+use Rattle.replay_model.specs.declared.tables.columns.Column.TheVariants.{Task as TaskColumn}
+use Rattle.replay_model.specs.tables.Columns.{acts, holds}
+use Rattle.replay_model.specs.tables.Turns.{line_of}
 use Rattle.table_law.specs.Controllers.{Controller, Entries, IsController, CanMakeAll}
 use Rattle.table_law.specs.States.{turn_variables, behind, before, granting, heard, IsWithin, Comes, Offers}
 use Rattle.table_law.specs.Laws.{last_offer, next_offer, handed_back, MakesOperations, ControllersMakeOperations}

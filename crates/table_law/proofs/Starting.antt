@@ -27,12 +27,12 @@ use Rattle.control_script.specs.declared.Op.TheVariants.{Go, Done, Join, Hold}
 use Rattle.normal_model.specs.Making.{one}
 use Rattle.normal_model.specs.Members.{integer_literal}
 use Rattle.normal_model.specs.Ranges.{word_at, integer_subtype}
-use Rattle.table_law.specs.declared.columns.Column.{Column}
-use Rattle.table_law.specs.declared.columns.Column.TheVariants.{Operation, Task as TaskColumn, Kind, Argument, Index}
-use Rattle.table_law.specs.Columns.{columns, says, table_name}
-use Rattle.table_law.specs.Tables.{up_to, array_of, table_value, table_declared, tables_for}
-use Rattle.table_law.specs.Turns.{turn}
-use Rattle.table_law.specs.ControlBodies.{loops, waits}
+use Rattle.replay_model.specs.declared.tables.columns.Column.{Column}
+use Rattle.replay_model.specs.declared.tables.columns.Column.TheVariants.{Operation, Task as TaskColumn, Kind, Argument, Index}
+use Rattle.replay_model.specs.tables.Columns.{columns, says, table_name}
+use Rattle.replay_model.specs.tables.Tables.{up_to, array_of, table_value, table_declared, tables_for}
+use Rattle.replay_model.specs.tables.Turns.{turn}
+use Rattle.replay_model.specs.tables.ControlBodies.{loops, waits}
 use Rattle.table_law.specs.Controllers.{Controller, Entries, IsController, CanMake, CanMakeAll}
 use Rattle.table_law.specs.States.{standing, table_object, tables, behind_loop, loop_around, turning, before, Comes}
 use Rattle.table_law.proofs.Numbers.{small, fitted-ok, number-at, literal-is}

@@ -23,9 +23,9 @@ use Rattle.task_model.specs.Stands.{can_step, stepped}
 use Rattle.control_script.specs.declared.Op.{Op}
 use Rattle.control_script.specs.declared.Op.TheVariants.{Go, Done, Join, Hold}
 use Rattle.normal_model.specs.Making.{one}
-use Rattle.table_law.specs.declared.columns.Column.TheVariants.{Operation, Task as TaskColumn}
-use Rattle.table_law.specs.Turns.{going, hearing, joined, join_arms, joining, turn_arms, turn}
-use Rattle.table_law.specs.ControlBodies.{waits}
+use Rattle.replay_model.specs.declared.tables.columns.Column.TheVariants.{Operation, Task as TaskColumn}
+use Rattle.replay_model.specs.tables.Turns.{going, hearing, joined, join_arms, joining, turn_arms, turn}
+use Rattle.replay_model.specs.tables.ControlBodies.{waits}
 use Rattle.table_law.specs.Controllers.{Controller, Entries, name_at, IsController, CanMake, CanMakeAll}
 use Rattle.table_law.specs.States.{standing, tables, objects, loop_around, behind_loop, turn_variables, turning, calling, behind, before, LeadsTo, Comes}
 use Rattle.table_law.proofs.Numbers.{small, fitted-ok, number-at}

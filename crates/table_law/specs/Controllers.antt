@@ -12,7 +12,7 @@ use Rattle.syn_event.specs.Numbering.{entry_at, task_named}
 use Rattle.task_model.specs.Setting.{Setting, entry_of, family_limits, entry_parameters}
 use Rattle.control_script.specs.declared.Op.{Op}
 use Rattle.control_script.specs.declared.Op.TheVariants.{Go, Done, Join, Hold}
-use Rattle.table_law.specs.declared.names.ControlNames.{ControlNames}
+use Rattle.replay_model.specs.declared.tables.names.ControlNames.{ControlNames}
 
 -- The controller: what it reads of its program, its number, the ids of its names, the program's tasks by their numbers, the place of its body, its input, and what it has written.
 pub record Controller : Type 0 where

@@ -16,11 +16,11 @@ use Rattle.control_script.specs.declared.Op.TheVariants.{Go, Done, Join}
 use Rattle.normal_model.specs.Making.{one}
 use Rattle.normal_model.specs.Ranges.{word_at}
 use Rattle.normal_model.specs.Names.{id_of}
-use Rattle.table_law.specs.declared.names.ControlNames.{ControlNames}
-use Rattle.table_law.specs.ControlTexts.{with_control_names, ids_in}
-use Rattle.table_law.specs.ControlBodies.{control_block}
-use Rattle.table_law.specs.Tables.{control_objects}
-use Rattle.table_law.specs.Turns.{permit_formals}
+use Rattle.replay_model.specs.declared.tables.names.ControlNames.{ControlNames}
+use Rattle.replay_model.specs.tables.ControlTexts.{with_control_names, ids_in}
+use Rattle.replay_model.specs.tables.ControlBodies.{control_block}
+use Rattle.replay_model.specs.tables.Tables.{control_objects}
+use Rattle.replay_model.specs.tables.Turns.{permit_formals}
 use Rattle.table_law.specs.Controllers.{Controller, Entries}
 
 abbrev pub here : Span

@@ -12,8 +12,8 @@ use Rattle.task_model.specs.Tasks.{Task}
 use Rattle.task_model.specs.Rendezvous.{accepted, finished, call_failed, pending_of, finals_of}
 use Rattle.control_script.specs.declared.Op.{Op}
 use Rattle.control_script.specs.declared.Op.TheVariants.{Go, Done, Join, Hold}
-use Rattle.table_law.specs.Columns.{acts, holds}
-use Rattle.table_law.specs.ControlTexts.{control_texts, with_control_names, ids_in}
+use Rattle.replay_model.specs.tables.Columns.{acts, holds}
+use Rattle.replay_model.specs.tables.ControlTexts.{control_texts, with_control_names, ids_in}
 use Rattle.table_law.specs.Controllers.{Controller, Entries, AreApart, variable_names, IsController, CanMakeAll}
 use Rattle.table_law.specs.States.{starting, before, IsWithin, Comes, Offers}
 

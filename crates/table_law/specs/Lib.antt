@@ -1,9 +1,5 @@
-pub mod ControlTexts
-pub mod Columns
-pub mod Tables
-pub mod Turns
-pub mod ControlBodies
 pub mod Controllers
 pub mod States
 pub mod Laws
 pub mod Examples
+pub mod runs

@@ -18,12 +18,12 @@ use Rattle.task_model.specs.Starting.{Unit as TaskUnit, started_in}
 use Rattle.control_script.specs.declared.Op.{Op}
 use Rattle.control_script.specs.declared.Op.TheVariants.{Go, Done, Join, Hold}
 use Rattle.normal_model.specs.Making.{one}
-use Rattle.table_law.specs.declared.columns.Column.{Column}
-use Rattle.table_law.specs.declared.columns.Column.TheVariants.{Operation, Task as TaskColumn, Kind, Argument, Index}
-use Rattle.table_law.specs.Columns.{says, table_name}
-use Rattle.table_law.specs.Tables.{control_objects}
-use Rattle.table_law.specs.Turns.{permit_formals, going, hearing, join_call, join_handlers, turn}
-use Rattle.table_law.specs.ControlBodies.{waits, control_block}
+use Rattle.replay_model.specs.declared.tables.columns.Column.{Column}
+use Rattle.replay_model.specs.declared.tables.columns.Column.TheVariants.{Operation, Task as TaskColumn, Kind, Argument, Index}
+use Rattle.replay_model.specs.tables.Columns.{says, table_name}
+use Rattle.replay_model.specs.tables.Tables.{control_objects}
+use Rattle.replay_model.specs.tables.Turns.{permit_formals, going, hearing, join_call, join_handlers, turn}
+use Rattle.replay_model.specs.tables.ControlBodies.{waits, control_block}
 use Rattle.table_law.specs.Controllers.{Controller, name_at}
 
 -- the controller where it stands so

@@ -1,16 +1,11 @@
-//! The controller of a replay text as tables: its body, as definitions, and what it does, as one task by itself. The crate has no functions of its
-//! own but the one that carries the laws.
+//! What the controller of a replay text does, as one task by itself. The crate has no functions of its own but those that carry the laws.
 #![tactic(auto)]
 
-mod columns;
-mod names;
+pub mod runs;
 
 ghost use Rattle.table_law.specs.Controllers.{IsController, CanMakeAll};
 ghost use Rattle.table_law.specs.Laws.{ControllersMakeOperations, ControlNamesAreApart, ControlNamesAreThere};
 ghost use Rattle.table_law.specs.Examples.{controller, entries, operations};
-
-pub use columns::Column;
-pub use names::ControlNames;
 
 /// Carries the laws of the controller, in every program that is as `IsController` asks. From its start it comes to before its operations, and from each
 /// to the next; before each it offers that one alone, and a permit hands back its three numbers (`makes`). The ids of its names are apart wherever

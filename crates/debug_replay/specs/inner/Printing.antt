@@ -1,20 +1,15 @@
 -- The outcome of replaying as the code comes to it: a text that is made is printed, unless it is too long (this project's rules).
-use Rattle.std.specs.Prelude.{◌≡◌, ℕ, nat_lt, List, length, Result, Ok, Err, ◌⊎◌, if◌then◌else◌}
+use Rattle.std.specs.Prelude.{◌≡◌, ℕ, List, Result, Ok, Err, ◌⊎◌}
 use Rattle.ada_tree.specs.PlainProgram.{PProgram}
 use Rattle.ada_tree.specs.TypeTable.{TypeTable}
-use Rattle.ada_printer.specs.ProgramText.{program_text}
 use Rattle.event_machine.specs.declared.Event.{Event}
 use Rattle.syn_event.specs.Numbering.{Numbering}
 use Rattle.replay_model.specs.ReplayTree.{replayed}
-use Rattle.debug_outcome.specs.files.Wanting.{text_limit}
-use Rattle.debug_outcome.specs.Outcomes.{Outcome, writes, refuses}
-use Rattle.debug_outcome.specs.declared.refusal.Refusal.TheVariants.{LongText, TooMany}
+use Rattle.debug_outcome.specs.Outcomes.{Outcome, refuses}
+use Rattle.debug_outcome.specs.Printing.{printed_outcome}
+use Rattle.debug_outcome.specs.declared.refusal.Refusal.TheVariants.{TooMany}
 use Rattle.debug_outcome.specs.declared.refusal.Listed.TheVariants.{Events}
 use Rattle.debug_sequence.specs.Sequences.{ReadsAs, IsRefusedSequence}
-
--- The text of a program in the layout, which has at most as many bytes as a program that is run; else that limit.
-abbrev pub printed_outcome : PProgram → Outcome
-printed_outcome p = if nat_lt text_limit (length (program_text p)) then refuses (LongText text_limit) else writes (program_text p) 0
 
 -- The replay text as it is printed, or that there are more events than are replayed.
 abbrev pub replay_outcome : Result PProgram ℕ → Outcome

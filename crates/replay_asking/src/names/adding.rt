@@ -40,6 +40,12 @@ fn intern_added(names: &mut Names) -> Result<(), Memory>
             "NEVER",
             "DED_NEVER",
             "DED_JOIN",
+            "DED_OPS",
+            "DED_TS",
+            "DED_KS",
+            "DED_AS",
+            "DED_IS",
+            "DED_N",
         ],
     )
 }

@@ -7,13 +7,12 @@ use Rattle.ada_tree.specs.PlainExpr.{EInteger}
 use Rattle.ada_tree.specs.PlainDecl.{OPlain, IOne, PEntry, PTask, PDecl, DObject, DTask, DTaskBody, decls_of}
 use Rattle.syn_event.specs.DeclaredTasks.{decl_list}
 use Rattle.syn_event.specs.Numbering.{Numbering}
-use Rattle.control_script.specs.declared.Op.{Op}
 use Rattle.normal_model.specs.Ranges.{word_at, integer_subtype}
 use Rattle.replay_model.specs.ReplayTree.{behind_own, is_task, is_body}
 use Rattle.replay_asking.specs.declared.names.added_names.AddedNames.{AddedNames}
 use Rattle.replay_asking.specs.Voice.{Voice}
 use Rattle.replay_asking.specs.Called.{double_word}
-use Rattle.replay_declarations.specs.control.Controlled.{entry_by, control_declared, idle_declared, control_body, idle_body}
+use Rattle.replay_declarations.specs.control.Controlled.{entry_by, control_declared, idle_declared, idle_body}
 use Rattle.replay_statements.specs.rules.Replayed.{body_image}
 
 abbrev pub permit_declared : AddedNames → Span → PDecl
@@ -49,18 +48,18 @@ decl_image v names d = d
 abbrev pub control_pair : Voice → ℕ → Span → List PDecl
 control_pair v last s = control_declared v.added s last ∷ idle_declared v.added s ∷ []
 
-abbrev pub body_pair : Voice → Span → List Op → List PDecl
-body_pair v s ops = control_body v.added v.numbers.tasks s ops ∷ idle_body v.added s ∷ []
+abbrev pub body_pair : Voice → Span → PDecl → List PDecl
+body_pair v s control = control ∷ idle_body v.added s ∷ []
 
--- the declarations by the objects, tasks and bodies, where `last` is the number of the last task
-abbrev pub units_image : Voice → List (List ℕ) → ℕ → Span → List Op → List PDecl → List PDecl → List PDecl → List PDecl
-units_image v names last s ops objects tasks bodies =
+-- the declarations by the objects, tasks and bodies, where `last` is the number of the last task and `control` the body of the controller
+abbrev pub units_image : Voice → List (List ℕ) → ℕ → Span → PDecl → List PDecl → List PDecl → List PDecl → List PDecl
+units_image v names last s control objects tasks bodies =
     behind_own names (permit_declared v.added s) objects
     ++ map (decl_image v names) tasks
     ++ control_pair v last s
     ++ map (decl_image v names) bodies
-    ++ body_pair v s ops
+    ++ body_pair v s control
 
-abbrev pub decls_image : Voice → List (List ℕ) → ℕ → Span → List Op → List PDecl → List PDecl
-decls_image v names last s ops ds =
-    units_image v names last s ops (filter (λ d. not (is_task d || is_body d)) ds) (filter is_task ds) (filter is_body ds)
+abbrev pub decls_image : Voice → List (List ℕ) → ℕ → Span → PDecl → List PDecl → List PDecl
+decls_image v names last s control ds =
+    units_image v names last s control (filter (λ d. not (is_task d || is_body d)) ds) (filter is_task ds) (filter is_body ds)

@@ -5,7 +5,6 @@ use Rattle.ada_tree.specs.declared.static_types.Kind.{Kind}
 use Rattle.ada_tree.specs.declared.static_types.Kind.TheVariants as kind
 use Rattle.ada_tree.specs.TypeTable.{TypeTable}
 use Rattle.ada_tree.specs.PlainExpr.{PDrange}
-use Rattle.syn_event.specs.declared.numbering.TaskInfo.{TaskInfo}
 use Rattle.task_model.specs.Setting.{Setting}
 use Rattle.normal_model.specs.Names.{id_of}
 use Rattle.normal_model.specs.Ranges.{kind_of_range, kind_name, family_range, range_of_info}
@@ -39,7 +38,3 @@ pub record AreTables (g : Setting) (names : List (List ℕ)) (tables : Tables) :
   pub doubles : tables.doubles.items ≡ map (λ t. id_of names (double_text t)) g.program.names
   pub other : tables.other ≡ id_of names (double_text [])
   pub marks : tables.marks.items ≡ marks_of g
-
--- No task is a member of an array, as in a normal form.
-pub record AreSingle (g : Setting) : Type 0 where
-  pub each : (t : ℕ) (info : TaskInfo) → slice_get g.numbers.tasks t ≡ Some info → info.member ≡ None

@@ -1,52 +1,41 @@
 // The bodies of the controller and the idle task.
 
-ghost use Rattle.std.specs.Prelude.{◌≡◌, [], None, IfOk, map};
-ghost use Rattle.ada_tree.specs.PlainStmt.{plain_alt, alts_of, alt_then, alternative, no_alt, no_stmt, accepting, absent, AAccept, ATerminate, seen, body, no_handler};
-ghost use Rattle.ada_tree.specs.PlainDecl.{plain_decl, no_decl, DTaskBody};
+ghost use Rattle.std.specs.Prelude.{◌≡◌, [], None, IfOk, OnOk, map};
+ghost use Rattle.ada_tree.specs.PlainStmt.{plain_alt, alts_of, alt_then, alternative, no_alt, no_stmt, accepting, absent, AAccept, ATerminate};
+ghost use Rattle.ada_tree.specs.PlainDecl.{plain_decl};
 ghost use Rattle.normal_model.specs.Ranges.{word_at};
-ghost use Rattle.ada_stmt_copy.specs.expressions.Parts.{OkWith};
+ghost use Rattle.replay_model.specs.tables.ControlTexts.{ids_in, with_control_names};
 ghost use Rattle.replay_declarations.specs.control.Controlled.{control_body, idle_body};
 
 use crate::control::declarations::word;
-use crate::control::operations::put_operations;
 use ada_stmt_copy::building::{
     accept_alternative_of, accepting_of, body_of, terminate_alternative_of, wait_of,
 };
-use ada_tree::{Alt, Decl, Memory, NameId, Span, Stmt};
+use ada_tree::{Alt, Decl, Memory, Names, Span};
 use ada_tree_copy::building::task_body_of;
 use control_script::Op;
 use replay_asking::making::alts_before;
 use replay_asking::names::AddedNames;
 use std::alloc::Global;
-use syn_event::TaskInfo;
-use tree_rewriting::making::{keep_stmts, one_alt, one_stmt};
+use syn_event::Numbers;
+use tree_rewriting::making::{one_alt, one_stmt};
 
-// A task body without objects and handlers.
-fn task_body(
-    alloc: Global,
-    name: NameId,
-    stmts: Result<Vec<Stmt>, Memory>,
-    s: Span,
-) -> Result<Decl, Memory>
-    ensures { IfOk result (λ made. OkWith stmts (λ k. plain_decl made ≡ DTaskBody (word_at s name) no_decl (body (seen k.items) no_handler) s)) }
-{
-    let its = body_of(stmts, Ok(Vec::new(alloc)));
-    task_body_of(word(name, s), Ok(Vec::new(alloc)), its, s)
-}
-
-/// The body of the controller, from the operations of a script. The tasks' names are found by their numbers; it takes time linear in the operations.
+/// The body of the controller, from the operations of a script, for a program with these numbers. The names in it are interned, and stand behind those
+/// that were there. The only error is want of memory. It takes time linear in the operations and the tasks.
 pub fn control_body(
     alloc: Global,
     n: &AddedNames,
-    infos: &[TaskInfo],
     ops: &[Op],
+    numbers: &Numbers,
     s: Span,
+    names: &mut Names,
 ) -> Result<Decl, Memory>
-    ensures { IfOk result (λ made. plain_decl made ≡ control_body n.now infos.now s ops.now) }
+    ensures body { IfOk result (λ made. plain_decl made ≡ control_body n.now (ids_in names.new) numbers.now.tasks s ops.now) }
+    ensures names { OnOk result (names.new ≡ with_control_names names.old) }
 {
-    let mut stmts = Vec::new(alloc);
-    let done = put_operations(alloc, n, infos, ops, s, &mut stmts);
-    task_body(alloc, n.control, keep_stmts(stmts, done), s)
+    let made = table_control::control_body(alloc, ops, numbers, s, names)?;
+    let (objects, body) = made.parts();
+    task_body_of(word(n.control, s), Ok(objects), Ok(body), s)
 }
 
 // The alternatives of the idle task.
@@ -64,5 +53,6 @@ pub fn idle_body(alloc: Global, n: &AddedNames, s: Span) -> Result<Decl, Memory>
     ensures { IfOk result (λ made. plain_decl made ≡ idle_body n.now s) }
 {
     let wait = wait_of(idle_alternatives(alloc, n, s), Ok(None), s);
-    task_body(alloc, n.idle, one_stmt(alloc, wait), s)
+    let its = body_of(one_stmt(alloc, wait), Ok(Vec::new(alloc)));
+    task_body_of(word(n.idle, s), Ok(Vec::new(alloc)), its, s)
 }

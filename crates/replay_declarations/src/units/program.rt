@@ -3,18 +3,17 @@
 ghost use Rattle.std.specs.Prelude.{◌≡◌, ◌||◌, ◌++◌, ◌∷◌, [], not, IfOk, OnOk, map};
 ghost use Rattle.std.specs.List.{filter};
 ghost use Rattle.ada_tree.specs.PlainDecl.{plain_decl};
-ghost use Rattle.replay_declarations.specs.control.Controlled.{control_declared, idle_declared, control_body, idle_body};
+ghost use Rattle.replay_declarations.specs.control.Controlled.{control_declared, idle_declared, idle_body};
 ghost use Rattle.replay_model.specs.ReplayTree.{is_task, is_body};
 ghost use Rattle.replay_asking.specs.Looked.{voice_of};
 ghost use Rattle.replay_declarations.specs.units.inner.UnderUnits.{by_units};
 ghost use Rattle.replay_declarations.specs.ids.Arranged.{control_pair, body_pair, decl_image, units_image, decls_image};
 
-use crate::control::{control_body, control_declared, idle_body, idle_declared};
+use crate::control::{control_declared, idle_body, idle_declared};
 use crate::units::permits::put_permit;
 use crate::units::runners::by_units;
 use crate::units::units::replay_all;
 use ada_tree::{Decl, DeclKind, Memory, Names, Span};
-use control_script::Op;
 use replay_asking::Speaker;
 use replay_asking::making::{move_decls, push_taken_decl};
 use std::alloc::Global;
@@ -56,13 +55,12 @@ fn sort_decls(
     Ok(())
 }
 
-/// What stands at the head of all units: the program's names, the number of its last task, the place of what is added for it, and the operations of the script.
+/// What stands at the head of all units: the program's names, the number of its last task, and the place of what is added for it.
 #[derive(Clone, Copy)]
 pub struct Head<'a> {
     pub names: &'a Names,
     pub last: u32,
     pub place: Span,
-    pub ops: &'a [Op],
 }
 
 // The controller is declared behind others.
@@ -95,24 +93,11 @@ fn put_control(alloc: Global, x: &Speaker, head: &Head, out: &mut Vec<Decl>) -> 
     put_idle(alloc, x, head, out)
 }
 
-// The controller's body, from the script's operations.
-fn control_body_of(alloc: Global, x: &Speaker, head: &Head) -> Result<Decl, Memory>
-    ensures { IfOk result (λ made. plain_decl made ≡ control_body (voice_of x.now).added (voice_of x.now).numbers.tasks head.now.place head.now.ops.now) }
+// The controller's body stands behind others. It is taken from where it stands.
+fn put_control_body(control: &mut Decl, out: &mut Vec<Decl>) -> Result<(), Memory>
+    ensures { OnOk result (map plain_decl out.new.items ≡ map plain_decl out.old.items ++ plain_decl control.old ∷ []) }
 {
-    let numbers = x.numbers.numbers();
-    control_body(alloc, &x.tables.added, &numbers.tasks, head.ops, head.place)
-}
-
-// The controller's body stands behind others.
-fn put_control_body(
-    alloc: Global,
-    x: &Speaker,
-    head: &Head,
-    out: &mut Vec<Decl>,
-) -> Result<(), Memory>
-    ensures { OnOk result (map plain_decl out.new.items ≡ map plain_decl out.old.items ++ control_body (voice_of x.now).added (voice_of x.now).numbers.tasks head.now.place head.now.ops.now ∷ []) }
-{
-    push_decl(out, control_body_of(alloc, x, head))
+    push_taken_decl(out, control)
 }
 
 // The idle task's body stands behind others.
@@ -127,11 +112,12 @@ fn put_control_bodies(
     alloc: Global,
     x: &Speaker,
     head: &Head,
+    control: &mut Decl,
     out: &mut Vec<Decl>,
 ) -> Result<(), Memory>
-    ensures { OnOk result (map plain_decl out.new.items ≡ map plain_decl out.old.items ++ body_pair (voice_of x.now) head.now.place head.now.ops.now) }
+    ensures { OnOk result (map plain_decl out.new.items ≡ map plain_decl out.old.items ++ body_pair (voice_of x.now) head.now.place (plain_decl control.old)) }
 {
-    put_control_body(alloc, x, head, out)?;
+    put_control_body(control, out)?;
     put_idle_body(alloc, x, head, out)
 }
 
@@ -157,18 +143,19 @@ fn put_units(
     x: &Speaker,
     head: &Head,
     runners: &TaskNames,
+    control: &mut Decl,
     objects: &mut Vec<Decl>,
     tasks: &mut Vec<Decl>,
     bodies: &mut Vec<Decl>,
 ) -> Result<(), Memory>
     requires { runners.now ≡ by_units x.now.numbers.now }
-    ensures { OnOk result (map plain_decl objects.new.items ≡ units_image (voice_of x.now) head.now.names.now head.now.last head.now.place head.now.ops.now (map plain_decl objects.old.items) (map plain_decl tasks.old.items) (map plain_decl bodies.old.items)) }
+    ensures { OnOk result (map plain_decl objects.new.items ≡ units_image (voice_of x.now) head.now.names.now head.now.last head.now.place (plain_decl control.old) (map plain_decl objects.old.items) (map plain_decl tasks.old.items) (map plain_decl bodies.old.items)) }
 {
     put_permit(alloc, head.names, &x.tables.added, head.place, objects)?;
     put_rewritten(alloc, x, head, runners, tasks, objects)?;
     put_control(alloc, x, head, objects)?;
     put_rewritten(alloc, x, head, runners, bodies, objects)?;
-    put_control_bodies(alloc, x, head, objects)
+    put_control_bodies(alloc, x, head, control, objects)
 }
 
 // The declarations of the normal form are sorted, and become those of the replay text among the objects.
@@ -176,31 +163,43 @@ fn put_decls(
     alloc: Global,
     x: &Speaker,
     head: &Head,
+    control: &mut Decl,
     decls: &mut Vec<Decl>,
     objects: &mut Vec<Decl>,
 ) -> Result<(), Memory>
     requires { objects.old.items ≡ [] }
-    ensures { OnOk result (map plain_decl objects.new.items ≡ decls_image (voice_of x.now) head.now.names.now head.now.last head.now.place head.now.ops.now (map plain_decl decls.old.items)) }
+    ensures { OnOk result (map plain_decl objects.new.items ≡ decls_image (voice_of x.now) head.now.names.now head.now.last head.now.place (plain_decl control.old) (map plain_decl decls.old.items)) }
 {
     let mut tasks = Vec::new(alloc);
     let mut bodies = Vec::new(alloc);
     sort_decls(decls, objects, &mut tasks, &mut bodies)?;
     let units = by_units(alloc, x.numbers.numbers())?;
     let runners = TaskNames::new(alloc, &units)?;
-    put_units(alloc, x, head, &runners, objects, &mut tasks, &mut bodies)
+    put_units(
+        alloc,
+        x,
+        head,
+        &runners,
+        control,
+        objects,
+        &mut tasks,
+        &mut bodies,
+    )
 }
 
-/// The declarations of the normal form become those of the replay text. After want of memory nothing is said of them.
+/// The declarations of the normal form become those of the replay text, with this body of the controller, which is taken from where it stands. After want
+/// of memory nothing is said of them.
 pub fn replay_decls(
     alloc: Global,
     x: &Speaker,
     head: &Head,
+    control: &mut Decl,
     decls: &mut Vec<Decl>,
 ) -> Result<(), Memory>
-    ensures { OnOk result (map plain_decl decls.new.items ≡ decls_image (voice_of x.now) head.now.names.now head.now.last head.now.place head.now.ops.now (map plain_decl decls.old.items)) }
+    ensures { OnOk result (map plain_decl decls.new.items ≡ decls_image (voice_of x.now) head.now.names.now head.now.last head.now.place (plain_decl control.old) (map plain_decl decls.old.items)) }
 {
     let mut objects = Vec::new(alloc);
-    put_decls(alloc, x, head, decls, &mut objects)?;
+    put_decls(alloc, x, head, control, decls, &mut objects)?;
     *decls = objects;
     Ok(())
 }

@@ -19,7 +19,7 @@ use Rattle.common_lemmas.proofs.Numbers.{le_is, unequal}
 use Rattle.common_lemmas.proofs.Truth.{and_left, and_right}
 use Rattle.legal_programs.proofs.rewritten_values.Saying.{place-within}
 use Rattle.normal_model.proofs.VariablesLemmas.{Begins}
-use Rattle.normal_structure.proofs.placed.Tasks.{IsShortName, declared-short}
+use Rattle.normal_laws.proofs.structure.placed.Tasks.{IsShortName, declared-short}
 use Rattle.replay_model.specs.Names.{double_text}
 use Rattle.replay_structure.specs.placed.Placeable.{HasDouble}
 

@@ -30,9 +30,9 @@ use Rattle.normal_model.specs.Walk.{Rewriter, after_kind, inside_alts}
 use Rattle.normal_model.specs.NormalStmts.{normal_rewriter}
 use Rattle.legal_programs.specs.asked.Asked.{Asks}
 use Rattle.legal_programs.specs.asked.Kinds.{place_asks, check_asks, both}
-use Rattle.normal_structure.specs.asked.Pieces.{IsGuard, member_choice, Pieces}
-use Rattle.normal_structure.proofs.placed.Depth.{depth-of, expr-depth, few-alternatives}
-use Rattle.normal_structure.proofs.placed.Calls.{moves, args-depth, Fits, index-fits, pair-fits}
+use Rattle.normal_laws.specs.structure.asked.Pieces.{IsGuard, member_choice, Pieces}
+use Rattle.normal_laws.proofs.structure.placed.Depth.{depth-of, expr-depth, few-alternatives}
+use Rattle.normal_laws.proofs.structure.placed.Calls.{moves, args-depth, Fits, index-fits, pair-fits}
 use Rattle.replay_model.specs.Asking.{as_number, number_in, member_number}
 use Rattle.replay_structure.specs.placed.Fitting.{reach, IsOperand, FitsHead, HasPrimaryGuards, fit_asks}
 use Rattle.replay_is_legal.specs.fits.Ready.{normal_of, ready_asks}

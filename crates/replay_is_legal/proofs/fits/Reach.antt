@@ -11,8 +11,8 @@ use Rattle.syn_event.specs.CheckScope.{CheckScope, CheckSite}
 use Rattle.syn_event.specs.CheckSites as check
 use Rattle.legal_programs.specs.sites.Met.{IsCheckMet}
 use Rattle.common_lemmas.proofs.Lists.{all_back, all_front, all_unflat}
-use Rattle.normal_structure.specs.asked.Pieces.{IsPlain}
-use Rattle.normal_structure.proofs.placed.Depth.{depth-of, expr-depth}
+use Rattle.normal_laws.specs.structure.asked.Pieces.{IsPlain}
+use Rattle.normal_laws.proofs.structure.placed.Depth.{depth-of, expr-depth}
 use Rattle.replay_structure.specs.placed.Fitting.{reach}
 
 module _ (names : List (List ℕ)) where

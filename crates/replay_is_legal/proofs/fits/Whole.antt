@@ -24,18 +24,18 @@ use Rattle.normal_model.specs.RewrittenUnit.{RewrittenUnit}
 use Rattle.normal_model.specs.NormalStmts.{normal_body, unit_variables}
 use Rattle.normal_model.specs.NormalTree.{decls_front, mark_of, unless_left, first_decls, tasks_beside, task_under, declared_under, task_declared, unit_for, running, body_copy, bodies_of, main_variables, variables_needed}
 use Rattle.normal_model.proofs.VariablesLemmas.{begins-refl}
-use Rattle.normal_structure.proofs.types.Names.{names-begin}
+use Rattle.normal_laws.proofs.structure.types.Names.{names-begin}
 use Rattle.legal_programs.specs.asked.Asked.{AskedBody}
 use Rattle.legal_programs.specs.asked.Kinds.{place_asks, check_asks, both}
 use Rattle.legal_programs.proofs.asked.Placed.{placed_asked}
 use Rattle.legal_programs.proofs.asked.Checked.{checked_asked}
 use Rattle.legal_programs.proofs.asked.Together.{both_asked}
-use Rattle.normal_structure.specs.asked.Pieces.{IsAmong, first_among, later_among}
-use Rattle.normal_structure.proofs.asked.Walk.{body-keeps}
-use Rattle.normal_structure.specs.placed.Placeable.{IsName, MarksHaveNames, IsPlaceable}
-use Rattle.normal_structure.proofs.placed.Names.{first-named, old-named}
-use Rattle.normal_structure.proofs.placed.Originals.{all_normal_placed}
-use Rattle.normal_structure.proofs.placed.Added.{AreSubtypes, AreVariablesFrom, unit-from}
+use Rattle.normal_laws.specs.structure.asked.Pieces.{IsAmong, first_among, later_among}
+use Rattle.normal_laws.proofs.structure.asked.Walk.{body-keeps}
+use Rattle.normal_laws.specs.structure.placed.Placeable.{IsName, MarksHaveNames, IsPlaceable}
+use Rattle.normal_laws.proofs.structure.placed.Names.{first-named, old-named}
+use Rattle.normal_laws.proofs.structure.placed.Originals.{all_normal_placed}
+use Rattle.normal_laws.proofs.structure.placed.Added.{AreSubtypes, AreVariablesFrom, unit-from}
 use Rattle.replay_structure.specs.placed.Fitting.{fit_asks}
 use Rattle.replay_structure.specs.placed.Placeable.{FitsDecl, IsReplayPlaceable}
 use Rattle.replay_is_legal.specs.fits.Ready.{normal_of, ready_asks, ReadyBody, IsReady}
@@ -223,7 +223,7 @@ module _ (g : Setting) (h : IsPlaceable g) (q : IsReady g) where
   normal-placed : IsWellPlaced n.program
   normal-placed = all_normal_placed g h
 
-  infos-named : (ts : List PTask) → AllByRecursion (λ t. IsName n.program.names t.name.name) ts → AllByRecursion (λ info. IsName n.program.names (task_name n info)) (map (λ t. task_info n.program.names t.name.name) ts)
+  infos-named : (ts : List PTask) → AllByRecursion (λ t. IsName n.program.names t.name.name) ts → AllByRecursion (λ info. IsName n.program.names info.name) (map (λ t. task_info n.program.names t.name.name) ts)
   infos-named [] i = tt
   infos-named (t ∷ ts) i = (i.0, infos-named ts i.1)
 

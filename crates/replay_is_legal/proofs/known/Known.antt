@@ -4,7 +4,7 @@ use Rattle.std.specs.List.{AllByRecursion}
 use Rattle.std.proofs.lemmas.List.Elements.{recursion_from_All}
 use Rattle.syn_event.specs.Numbering.{owner_of}
 use Rattle.seq_file.specs.Known.{is_known}
-use Rattle.normal_runs.specs.forms.Normalisable.{numbers_of}
+use Rattle.normal_laws.specs.runs.forms.Normalisable.{numbers_of}
 use Rattle.replay_is_legal.proofs.fits.Counted.{tasks-within, entries-within}
 use Rattle.replay_is_legal.proofs.placed.Carried.{all_legal_placed}
 use Rattle.replay_is_legal.specs.known.Laws.{KnownHaveLiterals, KnownReplayIsPlaced}
@@ -12,7 +12,7 @@ use Rattle.replay_is_legal.proofs.known.Literals.{events-small, script-literal}
 
 pub known_have_literals : KnownHaveLiterals
 known_have_literals p events checks known =
-    let each : AllByRecursion (λ e. is_known (numbers_of p) e ≡ true) events = recursion_from_All (λ e. is_known (numbers_of p) e ≡ true) events known in (
+    let each : AllByRecursion (λ e. is_known (numbers_of p) e ≡ true) events = recursion_from_All (λ e. is_known (numbers_of p) e ≡ true) events known.each in (
       events-small (numbers_of p) events each,
       script-literal (numbers_of p) (omega (arith, tasks-within p checks)) (omega (arith, entries-within p checks)) (owner_of (numbers_of p)) (length (numbers_of p).tasks) events each,
     )
@@ -20,4 +20,4 @@ known_have_literals p events checks known =
 pub known_replay_is_placed : KnownReplayIsPlaced
 known_replay_is_placed p events h known =
     let l = known_have_literals p events h.legal.check_rules known in
-    all_legal_placed p events h l.0 l.1
+    all_legal_placed p events h l.0 l.1 known.few

@@ -16,7 +16,7 @@ use Rattle.control_script.specs.Script.{open_tasks, to_close, after_abort, opera
 use Rattle.control_script.specs.declared.Op.{Op}
 use Rattle.control_script.specs.declared.Op.TheVariants.{Done, Join, Hold}
 use Rattle.seq_file.specs.Known.{is_task, is_task_beside_main, is_index, fits_entry, is_known_member, is_alternative, is_known}
-use Rattle.normal_structure.specs.placed.Placeable.{IsSmallIndex}
+use Rattle.normal_laws.specs.structure.placed.Placeable.{IsSmallIndex}
 use Rattle.replay_model.specs.Promised.{HasLiteral}
 use Rattle.replay_structure.specs.placed.Placeable.{HasSmallIndices}
 

@@ -1,30 +1,27 @@
 -- The normal form of each legal program is as its replay text asks.
-use Rattle.std.proofs.Common.{◌≡◌, ℕ, Bool, true, List, [], flat_map, sym, subst}
+use Rattle.std.proofs.Common.{◌≡◌, ℕ, Bool, true, List, [], drop, flat_map, sym, subst}
 use Rattle.std.specs.List.{AllByRecursion, filter}
-use Rattle.std.proofs.lemmas.List.Elements.{recursion_from_All}
 use Rattle.common_lemmas.proofs.Lists.{all_unflat, all_weaker}
-use Rattle.event_machine.specs.declared.Event.{Event}
 use Rattle.ada_tree.specs.PlainDecl.{PDecl, DTaskBody}
 use Rattle.ada_tree.specs.PlainProgram.{PProgram}
 use Rattle.ada_static_rules.specs.Scope.{Scope}
 use Rattle.ada_static_rules.specs.Declaring.{inner_scope}
 use Rattle.syn_event.specs.declared.numbering.TaskInfo.{TaskInfo}
 use Rattle.syn_event.specs.DeclaredTasks.{decl_list}
-use Rattle.seq_file.specs.Known.{is_known}
 use Rattle.task_model.specs.Setting.{Setting}
 use Rattle.normal_model.specs.Names.{task_name}
 use Rattle.normal_model.specs.NormalTree.{first_decls, tasks_beside, task_declared, bodies_of, main_unit, main_variables}
-use Rattle.normal_runs.specs.forms.Normalisable.{numbers_of, made_for}
-use Rattle.normal_structure.specs.asked.Pieces.{IsAmong}
-use Rattle.normalisable.specs.Laws.{IsLegalOriginal}
-use Rattle.normal_structure.proofs.placed.Made.{among}
-use Rattle.normal_is_legal.proofs.scopes.Main as main
-use Rattle.normal_is_legal.proofs.scopes.Main.{g, unit-of}
-use Rattle.normal_is_legal.proofs.scopes.Tasks.{one-under}
+use Rattle.normal_laws.specs.runs.forms.Normalisable.{made_for}
+use Rattle.normal_laws.specs.structure.asked.Pieces.{IsAmong}
+use Rattle.normal_laws.specs.existence.Laws.{IsLegalOriginal}
+use Rattle.normal_laws.proofs.structure.placed.Made.{among}
+use Rattle.normal_laws.proofs.legality.scopes.Main as main
+use Rattle.normal_laws.proofs.legality.scopes.Main.{g, unit-of}
+use Rattle.normal_laws.proofs.legality.scopes.Tasks.{one-under}
 use Rattle.replay_structure.specs.checkable.Prepared.{form_for}
-use Rattle.replay_model.specs.ReplayTree.{is_body, last_task, script_of}
+use Rattle.replay_model.specs.ReplayTree.{is_body}
 use Rattle.replay_structure.specs.scopes.Names.{old_name}
-use Rattle.replay_structure.specs.scopes.Form.{AreNamesApart, IsEveryTask, IsOpForm, tasked, last}
+use Rattle.replay_structure.specs.scopes.Form.{AreNamesApart, IsEveryTask, IsSingleTask, tasked, last}
 use Rattle.replay_is_legal.specs.names.form_names.Laws.{IsNamedBody, HasFormNames}
 use Rattle.replay_is_legal.proofs.names.form_names.Whole.{legal_has_form_names}
 use Rattle.replay_is_legal.specs.names.inner.Scoped.{HasOwns, AreScoped}
@@ -33,8 +30,7 @@ use Rattle.replay_is_legal.specs.names.form_units.Inner.{inner_name}
 use Rattle.replay_is_legal.specs.names.inner.Units.{HasItsEntries, IsScopedBody, BodyUnits}
 use Rattle.replay_is_legal.proofs.names.form_units.Outer.{outer}
 use Rattle.replay_is_legal.proofs.names.form_units.Bodies.{bodies-units, main-told}
-use Rattle.replay_is_legal.proofs.names.form_units.OpForms.{ops-form}
-use Rattle.replay_is_legal.specs.known.Laws.{AreKnown}
+use Rattle.replay_is_legal.proofs.names.form_units.OpForms.{tasks-single, few-infos, ops-form}
 use Rattle.replay_is_legal.specs.names.Laws.{LegalNormalIsForm}
 use Rattle.replay_is_legal.proofs.names.Bodies.{unit-asked, unit-form, bodies-formed}
 
@@ -88,7 +84,7 @@ module _ (p : PProgram) (legal : IsLegalOriginal p) where
   main-unit : HasItsEntries (main_unit F) inner (inner_scope (last q before vars)) × IsScopedBody inner (inner_scope (last q before vars)) q.body
   main-unit = subst (λ c. HasItsEntries (main_unit F) inner (inner_scope c) × IsScopedBody inner (inner_scope c) q.body) (last-is p legal) (main-told p legal)
 
-  -- ---- operations
+  -- ---- tasks
 
   -- the name of each task is old
   task-old : (info : TaskInfo) → IsAmong info infos → old (task_name (g p legal) info).0 ≡ true
@@ -99,10 +95,8 @@ module _ (p : PProgram) (legal : IsLegalOriginal p) where
       let one : AllByRecursion (IsEveryTask old) (task_declared (g p legal) info) = among (λ (x : TaskInfo). AllByRecursion (IsEveryTask old) (task_declared (g p legal) x)) info infos i (all_unflat (IsEveryTask old) (task_declared (g p legal)) infos all) in
       (subst (AllByRecursion (IsEveryTask old)) d.is one).0.0
 
-  ops : (events : List Event) → AreKnown p events → AllByRecursion (IsOpForm F old (last_task F.numbers) (last q before vars)) (script_of (numbers_of p) events)
-  ops events known =
-      subst (λ c. AllByRecursion (IsOpForm F old (last_task F.numbers) c) (script_of (numbers_of p) events)) (last-is p legal)
-      (ops-form p legal old task-old events (recursion_from_All (λ e. is_known (numbers_of p) e ≡ true) events known))
+  singles : AllByRecursion (IsSingleTask old (last q before vars)) (drop 1 F.numbers.tasks)
+  singles = subst (λ c. AllByRecursion (IsSingleTask old c) (drop 1 F.numbers.tasks)) (last-is p legal) (tasks-single p legal old task-old)
 
 pub legal_normal_is_form : LegalNormalIsForm
 legal_normal_is_form p events legal known =
@@ -129,5 +123,7 @@ legal_normal_is_form p events legal known =
       tasking = s.tasking;
       form = unit-form old inner (main_unit (form_for p)) end s.unit u.0;
       asked = unit-asked old inner end (made_for p).body n.main u.1;
-      ops_form = ops p legal events known;
+      ops_form = ops-form p legal events known;
+      few_tasks = few-infos p legal;
+      single = singles p legal;
     }

@@ -35,14 +35,14 @@ use Rattle.legal_programs.proofs.asked.Typed.{typed_asked}
 use Rattle.legal_programs.proofs.asked.Checked.{checked_asked}
 use Rattle.legal_programs.proofs.asked.Together.{both_asked}
 use Rattle.normal_model.specs.RewrittenUnit.{RewrittenUnit}
-use Rattle.normal_structure.proofs.entries.Entries.{entry_in}
-use Rattle.normalisable.proofs.seen_tasks.Bodies.{PlaceSeen, accept-seen, handling-seen, loop-seen}
-use Rattle.normalisable.proofs.statement_forms.OwnEntries.{entry-said}
-use Rattle.normalisable.proofs.statement_forms.Callees.{CalleeKnown, callee-known, some-not}
-use Rattle.normal_structure.proofs.typed.Scopes.{accept-own, loop-own}
-use Rattle.normal_is_legal.proofs.asked.Steps.{Steps, steps_asked}
-use Rattle.normal_is_legal.proofs.asked.Tasks.{text}
-use Rattle.normal_is_legal.proofs.asked.Asked.{Place, Checked}
+use Rattle.normal_laws.proofs.structure.entries.Entries.{entry_in}
+use Rattle.normal_laws.proofs.existence.seen_tasks.Bodies.{PlaceSeen, accept-seen, handling-seen, loop-seen}
+use Rattle.normal_laws.proofs.existence.statement_forms.OwnEntries.{entry-said}
+use Rattle.normal_laws.proofs.existence.statement_forms.Callees.{CalleeKnown, callee-known, some-not}
+use Rattle.normal_laws.proofs.structure.typed.Scopes.{accept-own, loop-own}
+use Rattle.normal_laws.proofs.legality.asked.Steps.{Steps, steps_asked}
+use Rattle.normal_laws.proofs.legality.asked.Tasks.{text}
+use Rattle.normal_laws.proofs.legality.asked.Asked.{Place, Checked}
 use Rattle.replay_model.specs.Names.{double_text}
 use Rattle.replay_structure.specs.placed.Placeable.{HasDouble}
 use Rattle.replay_is_legal.specs.fits.Ready.{ready_asks}

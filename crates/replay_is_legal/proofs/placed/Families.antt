@@ -16,12 +16,12 @@ use Rattle.syn_event.specs.Numbering.{Numbering, task_at, entry_at, task_named}
 use Rattle.syn_event.specs.AddedNames.{task_info}
 use Rattle.syn_event.specs.DeclaredTasks.{tasks_of}
 use Rattle.task_model.specs.Setting.{Setting, entry_of, unit_named}
-use Rattle.normal_structure.specs.types.Laws.{setting_of}
+use Rattle.normal_laws.specs.structure.types.Laws.{setting_of}
 use Rattle.normal_model.specs.Names.{task_name}
 use Rattle.normal_model.specs.Ranges.{range_in, range_of_unit, range_of_info, family_range}
 use Rattle.normal_model.specs.NormalTree.{unit_for, tasks_beside}
-use Rattle.normal_structure.specs.units.Laws.{TellUnits}
-use Rattle.normal_structure.proofs.units.Tasks.{tasks-of, tasks_keep_numbers, tell-at, entries_in, find-first, unit-found, with_entries}
+use Rattle.normal_laws.specs.structure.units.Laws.{TellUnits}
+use Rattle.normal_laws.proofs.structure.units.Tasks.{tasks-of, tasks_keep_numbers, tell-at, entries_in, find-first, unit-found, with_entries}
 use Rattle.replay_is_legal.specs.fits.Ready.{normal_of}
 
 -- ---- ranges by entries

@@ -23,7 +23,7 @@ use Rattle.syn_event.specs.AddedNames.{task_info}
 use Rattle.syn_event.specs.DeclaredTasks.{tasks_of, decl_list}
 use Rattle.task_model.specs.Setting.{Setting}
 use Rattle.legal_programs.specs.sites.Met.{IsMet}
-use Rattle.normal_structure.specs.asked.Pieces.{IsAmong}
+use Rattle.normal_laws.specs.structure.asked.Pieces.{IsAmong}
 use Rattle.syn_event.specs.declared.numbering.TaskInfo.{TaskInfo}
 use Rattle.legal_programs.proofs.sites.Meeting.{all_met, all_check_met}
 use Rattle.legal_programs.proofs.types.MainScopes.{StandsWhole}
@@ -32,35 +32,35 @@ use Rattle.legal_programs.specs.asked.Asked.{AskedBody}
 use Rattle.ada_tree.specs.Every.{EveryExpr, EveryDecls}
 use Rattle.ada_tree.specs.WellPlaced.{well_placed}
 use Rattle.task_laws.specs.translation.Translations.{Programs}
-use Rattle.normal_structure.specs.types.Own.{own_name}
-use Rattle.normal_structure.proofs.types.Names.{names-begin}
+use Rattle.normal_laws.specs.structure.types.Own.{own_name}
+use Rattle.normal_laws.proofs.structure.types.Names.{names-begin}
 use Rattle.normal_model.specs.Names.{task_name}
 use Rattle.normal_model.specs.NormalTree.{unit_for, main_unit, running, tasks_beside, variables_needed}
-use Rattle.normal_structure.specs.units.Laws.{TellUnits}
-use Rattle.normal_structure.proofs.units.Declared.{units_are_declared}
-use Rattle.normal_structure.proofs.units.Tasks.{tasks_keep_numbers}
-use Rattle.normal_runs.specs.runs.Premises.{programs_of}
-use Rattle.normal_runs.specs.forms.Normalisable.{numbers_of, setting_for, normal_rewrite}
-use Rattle.normalisable.specs.Laws.{IsLegalOriginal}
-use Rattle.normalisable.proofs.units.Fields.{legal_is_ordered, legal_names_tell}
-use Rattle.normalisable.proofs.seen_tasks.Parts.{IsUnit, MainSeen, ObjectsApart, AreRanged, types_after, decl-step}
-use Rattle.normalisable.proofs.seen_tasks.Bodies.{first-seen, decls-step, main-seen, TaskSeen, task-seen}
-use Rattle.normalisable.proofs.seen_tasks.Units.{objects-apart, BodiesTyped}
-use Rattle.normalisable.proofs.statement_forms.Text.{IsLocal, text_rules, TextPremises}
-use Rattle.normal_is_legal.proofs.asked.Tasks.{text, known}
-use Rattle.normalisable.proofs.seen_tasks.Tasks.{PartsKnown, numbered-tasks-units, mapped-place, one-unit}
-use Rattle.normal_structure.proofs.entries.Entries.{IsTaskOf}
+use Rattle.normal_laws.specs.structure.units.Laws.{TellUnits}
+use Rattle.normal_laws.proofs.structure.units.Declared.{units_are_declared}
+use Rattle.normal_laws.proofs.structure.units.Tasks.{tasks_keep_numbers}
+use Rattle.normal_laws.specs.runs.runs.Premises.{programs_of}
+use Rattle.normal_laws.specs.runs.forms.Normalisable.{numbers_of, setting_for, normal_rewrite}
+use Rattle.normal_laws.specs.existence.Laws.{IsLegalOriginal}
+use Rattle.normal_laws.proofs.existence.units.Fields.{legal_is_ordered, legal_names_tell}
+use Rattle.normal_laws.proofs.existence.seen_tasks.Parts.{IsUnit, MainSeen, ObjectsApart, AreRanged, types_after, decl-step}
+use Rattle.normal_laws.proofs.existence.seen_tasks.Bodies.{first-seen, decls-step, main-seen, TaskSeen, task-seen}
+use Rattle.normal_laws.proofs.existence.seen_tasks.Units.{objects-apart, BodiesTyped}
+use Rattle.normal_laws.proofs.existence.statement_forms.Text.{IsLocal, text_rules, TextPremises}
+use Rattle.normal_laws.proofs.legality.asked.Tasks.{text, known}
+use Rattle.normal_laws.proofs.existence.seen_tasks.Tasks.{PartsKnown, numbered-tasks-units, mapped-place, one-unit}
+use Rattle.normal_laws.proofs.structure.entries.Entries.{IsTaskOf}
 use Rattle.legal_programs.proofs.types.StaticWorth.{small-literals}
 use Rattle.ada_value.specs.StaticLaw.{HasSmallLiterals}
 use Rattle.legal_programs.specs.rewritten_types.Rewriting.{DeclareOnce}
 use Rattle.legal_programs.proofs.rewritten_types.Lookups.{find-all}
-use Rattle.normal_is_legal.proofs.scopes.Seeing.{entries_in}
-use Rattle.normal_is_legal.proofs.scopes.Places.{AtBodies}
-use Rattle.normal_is_legal.proofs.scopes.Units.{IsUnitOrNot}
-use Rattle.normal_is_legal.proofs.scopes.Bodies.{body-own}
-use Rattle.normal_is_legal.proofs.scopes.Main.{units-seen}
-use Rattle.normalisable.proofs.body_forms.Joined as joined
-use Rattle.normalisable.proofs.body_forms.Fields as fields
+use Rattle.normal_laws.proofs.legality.scopes.Seeing.{entries_in}
+use Rattle.normal_laws.proofs.legality.scopes.Places.{AtBodies}
+use Rattle.normal_laws.proofs.legality.scopes.Units.{IsUnitOrNot}
+use Rattle.normal_laws.proofs.legality.scopes.Bodies.{body-own}
+use Rattle.normal_laws.proofs.legality.scopes.Main.{units-seen}
+use Rattle.normal_laws.proofs.existence.body_forms.Joined as joined
+use Rattle.normal_laws.proofs.existence.body_forms.Fields as fields
 use Rattle.syn_event.specs.NamedTasks.{NumberedTask, numbered_tasks}
 use Rattle.syn_event.specs.Numbering.{task_named}
 use Rattle.task_model.specs.Setting.{entry_of}
@@ -69,13 +69,13 @@ use Rattle.normal_model.specs.Ranges.{family_range}
 use Rattle.replay_model.specs.Asking.{number_in, member_number}
 use Rattle.replay_structure.specs.placed.Fitting.{IsOperand}
 use Rattle.replay_is_legal.proofs.placed.Families.{family-kept, unit-number}
-use Rattle.normal_is_legal.proofs.asked.Asked.{Place, Checked}
+use Rattle.normal_laws.proofs.legality.asked.Asked.{Place, Checked}
 use Rattle.replay_is_legal.specs.fits.Ready.{normal_of, ready_asks, ReadyBody, IsReady}
 use Rattle.replay_is_legal.proofs.fits.Counted.{tasks-within, entries-within}
 use Rattle.replay_is_legal.proofs.fits.Doubles.{decls-doubled}
 use Rattle.replay_is_legal.proofs.placed.Tight.{S, head-operand}
 use Rattle.replay_is_legal.proofs.placed.Calls.{EntriesDoubled, tasks-doubled, ready-asked}
-use Rattle.normal_structure.proofs.placed.Made.{among}
+use Rattle.normal_laws.proofs.structure.placed.Made.{among}
 use Rattle.ada_static_rules.proofs.found_twice.Declared.{objects_own}
 
 -- ---- lists

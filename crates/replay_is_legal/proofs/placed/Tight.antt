@@ -23,24 +23,24 @@ use Rattle.syn_event.specs.DeclaredTasks.{tasks_of}
 use Rattle.task_model.specs.Setting.{Setting, entry_of}
 use Rattle.task_model.specs.Starting.{known_range}
 use Rattle.normal_model.specs.Ranges.{kind_of_range}
-use Rattle.normal_runs.specs.forms.Normalisable.{numbers_of, setting_for}
+use Rattle.normal_laws.specs.runs.forms.Normalisable.{numbers_of, setting_for}
 use Rattle.legal_programs.specs.rewritten_types.Agreement.{scalar_only}
 use Rattle.legal_programs.proofs.rewritten_types.Lookups.{find-all}
 use Rattle.legal_programs.specs.sites.Met.{IsMet}
 use Rattle.legal_programs.proofs.types.MainScopes.{StandsWhole, last-stands}
-use Rattle.normal_structure.proofs.entries.Entries.{IsTaskOf}
-use Rattle.normalisable.specs.Laws.{IsLegalOriginal}
-use Rattle.normalisable.proofs.seen_tasks.Finding.{no-place}
-use Rattle.normalisable.proofs.seen_tasks.Parts.{FamilyRanged}
-use Rattle.normalisable.proofs.seen_tasks.Bodies.{PlaceSeen}
-use Rattle.normalisable.proofs.statement_forms.Typed.{Typing}
-use Rattle.normalisable.proofs.statement_forms.OwnEntries.{same-kind, EntryKnown, own-entry, index-of-family}
-use Rattle.normal_is_legal.proofs.asked.Tasks.{text}
-use Rattle.normal_structure.specs.typed.ScopeOf.{IsFamilyOf, IsEntryOf}
-use Rattle.normal_is_legal.proofs.scopes.Seeing.{entries_in}
-use Rattle.normal_is_legal.proofs.scopes.Main.{last, matched}
-use Rattle.normal_is_legal.proofs.scopes.Matched.{IsTaskMatched}
-use Rattle.normal_is_legal.proofs.scopes.Called.{entry-numbered}
+use Rattle.normal_laws.proofs.structure.entries.Entries.{IsTaskOf}
+use Rattle.normal_laws.specs.existence.Laws.{IsLegalOriginal}
+use Rattle.normal_laws.proofs.existence.seen_tasks.Finding.{no-place}
+use Rattle.normal_laws.proofs.existence.seen_tasks.Parts.{FamilyRanged}
+use Rattle.normal_laws.proofs.existence.seen_tasks.Bodies.{PlaceSeen}
+use Rattle.normal_laws.proofs.existence.statement_forms.Typed.{Typing}
+use Rattle.normal_laws.proofs.existence.statement_forms.OwnEntries.{same-kind, EntryKnown, own-entry, index-of-family}
+use Rattle.normal_laws.proofs.legality.asked.Tasks.{text}
+use Rattle.normal_laws.specs.structure.typed.ScopeOf.{IsFamilyOf, IsEntryOf}
+use Rattle.normal_laws.proofs.legality.scopes.Seeing.{entries_in}
+use Rattle.normal_laws.proofs.legality.scopes.Main.{last, matched}
+use Rattle.normal_laws.proofs.legality.scopes.Matched.{IsTaskMatched}
+use Rattle.normal_laws.proofs.legality.scopes.Called.{entry-numbered}
 use Rattle.replay_model.specs.Asking.{number_in, member_number}
 use Rattle.replay_structure.specs.placed.Fitting.{IsOperand}
 use Rattle.replay_is_legal.proofs.placed.IndexKinds.{kind-operand}

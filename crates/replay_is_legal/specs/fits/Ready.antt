@@ -14,7 +14,7 @@ use Rattle.normal_model.specs.NormalTree.{unit_for, main_unit, running}
 use Rattle.normal_model.specs.RewrittenUnit.{RewrittenUnit}
 use Rattle.legal_programs.specs.asked.Asked.{Asks, AskedBody}
 use Rattle.legal_programs.specs.asked.Kinds.{no_asks}
-use Rattle.normal_structure.specs.asked.Pieces.{IsAmong}
+use Rattle.normal_laws.specs.structure.asked.Pieces.{IsAmong}
 use Rattle.replay_model.specs.Names.{double_text}
 use Rattle.replay_model.specs.Asking.{member_number}
 use Rattle.replay_model.specs.ReplayTree.{normal_setting}

@@ -7,10 +7,10 @@ use Rattle.syn_event.specs.declared.numbering.Mode.TheVariants.{Any}
 use Rattle.syn_event.specs.Legal.{Legal}
 use Rattle.syn_event.specs.DeclaredTasks.{decl_list}
 use Rattle.normal_model.specs.NormalTree.{first_decls, main_variables}
-use Rattle.normal_structure.specs.placed.Example.{passing}
-use Rattle.normal_runs.specs.forms.Normalisable.{numbers_of, setting_for, made_for}
-use Rattle.normalisable.specs.Laws.{IsLegalOriginal}
-use Rattle.normal_is_legal.specs.Laws.{MeetsButOnce}
+use Rattle.normal_laws.specs.structure.placed.Example.{passing}
+use Rattle.normal_laws.specs.runs.forms.Normalisable.{numbers_of, setting_for, made_for}
+use Rattle.normal_laws.specs.existence.Laws.{IsLegalOriginal}
+use Rattle.normal_laws.specs.legality.Laws.{MeetsButOnce}
 use Rattle.replay_model.specs.Promised.{IsReplayText}
 use Rattle.replay_model.specs.ReplayNumbers.{replay_numbers}
 use Rattle.replay_model.specs.ReplayTree.{script_of}

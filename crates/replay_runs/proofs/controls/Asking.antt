@@ -34,13 +34,13 @@ use Rattle.task_model.specs.Tasks.{Task, gone_to}
 use Rattle.task_model.specs.Rendezvous.{resumed, resumed_with, pending_of, finals_of, come_back, copies_of, call_ended}
 use Rattle.task_model.specs.Stands.{call_stand, steps_at, offered}
 use Rattle.normal_model.specs.RewrittenUnit.{RewrittenUnit}
-use Rattle.normal_runs.specs.floors.Preludes.{IsCell}
-use Rattle.normal_runs.proofs.floors.Cells.{named-set_other, cell-set, cell-kept}
-use Rattle.normalisable.specs.Laws.{IsLegalOriginal}
-use Rattle.normalisable.proofs.seen_tasks.Finding.{no-place-passes}
-use Rattle.normal_is_legal.proofs.numbers.Numbered.{none_legal_is_ded}
-use Rattle.normal_is_legal.proofs.checks.Facts as facts
-use Rattle.normal_structure.proofs.numbers.Named.{Has, IsReserved, reserved-added}
+use Rattle.normal_laws.specs.runs.floors.Preludes.{IsCell}
+use Rattle.normal_laws.proofs.runs.floors.Cells.{named-set_other, cell-set, cell-kept}
+use Rattle.normal_laws.specs.existence.Laws.{IsLegalOriginal}
+use Rattle.normal_laws.proofs.existence.seen_tasks.Finding.{no-place-passes}
+use Rattle.normal_laws.proofs.legality.numbers.Numbered.{none_legal_is_ded}
+use Rattle.normal_laws.proofs.legality.checks.Facts as facts
+use Rattle.normal_laws.proofs.structure.numbers.Named.{Has, IsReserved, reserved-added}
 use Rattle.run_laws.specs.replaying.Copies.{Spots}
 use Rattle.replay_model.specs.Names.{added_texts, kind_text, argument_text, index_text, control_text, go_text, done_text, idle_text, stop_text, replay_names, added_id, added_word}
 use Rattle.replay_model.specs.Asking.{ask, done, permit_part}

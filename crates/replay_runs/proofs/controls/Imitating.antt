@@ -1,80 +1,40 @@
 -- The controller does what the law of replaying asks of it.
-use Rattle.std.proofs.Common.{◌≡◌, ℕ, zero, suc, ◌<◌, ◌≤◌, true, List, [], ◌∷◌, map, length, slice_index_or, None, refl, sym, ap, ◌∙◌, subst, arith}
+use Rattle.std.proofs.Common.{◌≡◌, Bool, false, List, [], ◌∷◌, ◌++◌, map, slice_index_or, refl, sym, ap, ◌∙◌, subst}
 use Rattle.std.specs.Prelude.{ℤ, pos}
-use Rattle.std.specs.List.{AllByRecursion}
-use Rattle.std.proofs.lemmas.List.Elements.{recursion_from_All}
-use Rattle.common_lemmas.proofs.Truth.{and_left, and_right}
-use Rattle.common_lemmas.proofs.Numbers.{lt_is}
 use Rattle.event_machine.specs.declared.Event.{Event}
-use Rattle.event_machine.specs.Offers.{Finishes}
 use Rattle.ada_tree.specs.PlainProgram.{PProgram}
-use Rattle.syn_event.specs.Numbering.{Numbering, owner_of}
-use Rattle.seq_file.specs.Known.{is_task, is_task_beside_main, is_known}
 use Rattle.task_model.specs.Frames.{callers_in}
 use Rattle.task_model.specs.Tasks.{Task}
-use Rattle.task_model.specs.Rendezvous.{accepted, finished, call_failed, pending_of, finals_of}
-use Rattle.task_model.specs.Stands.{stepped}
-use Rattle.normal_runs.specs.forms.Normalisable.{numbers_of}
-use Rattle.normalisable.specs.Laws.{IsLegalOriginal}
+use Rattle.task_model.specs.Rendezvous.{accepted, finished, call_failed}
+use Rattle.normal_laws.specs.existence.Laws.{IsLegalOriginal}
+use Rattle.control_script.specs.declared.Op.{Op}
+use Rattle.control_script.specs.declared.Op.TheVariants.{Go, Done, Join, Hold}
 use Rattle.run_laws.specs.replaying.Permits as law
-use Rattle.run_laws.specs.replaying.Permits.{ToMeet, ToFinish, ToElse, ToDelay, ToCallElse, ToExpire, ToFail, ToEnd, ToAbort, ToClose}
-use Rattle.run_laws.specs.replaying.Copies.{Spots, ops_offer, op_callers}
+use Rattle.run_laws.specs.replaying.Copies.{AtNothing, Spots, ops_offer, op_callers}
 use Rattle.replay_runs.specs.script.Spelling.{kind, arg, index, spelled}
-use Rattle.replay_runs.proofs.script.Spelled.{spells}
-use Rattle.replay_model.specs.Promised.{HasLiteral}
-use Rattle.replay_model.specs.ReplayTree.{last_task, script_of}
+use Rattle.replay_model.specs.tables.Columns.{is_hold, acts}
+use Rattle.table_law.specs.Controllers.{Controller, Entries, CanMakeAll}
+use Rattle.table_law.specs.States as tables
+use Rattle.table_law.specs.States.{starting, before, Comes, Offers}
+use Rattle.table_law.specs.Laws.{next_offer, MakesOperations}
+use Rattle.table_law.proofs.Turning.{moved}
+use Rattle.table_law.proofs.Making.{controllers_make_operations}
 use Rattle.replay_structure.specs.spots.Places.{text_spots}
-use Rattle.replay_is_legal.specs.known.Laws.{AreKnown}
-use Rattle.replay_is_legal.proofs.known.Known.{known_have_literals}
-use Rattle.replay_is_legal.proofs.names.form_units.Ops.{IsBounded, script-bounded}
 use Rattle.replay_runs.specs.starts.Laws.{form_in}
-use Rattle.replay_runs.specs.controls.Laws.{control_number, controller, hearing, granted, joining, LeadsTo, Offers, OffersNext, HearsTasks, GrantsPermits, JoinsTasks}
-use Rattle.replay_runs.specs.controls.Imitating.{CanBeMade, law_script, before, IsBefore, within, IsWithin, LeadsInto, permit_values, ImitatesController, LegalImitatesController, LegalStartsWithScript}
-use Rattle.replay_runs.proofs.controls.Offers.{as-many-numbers, legal_offers_next}
-use Rattle.replay_runs.proofs.controls.Hearing.{legal_hears_tasks}
-use Rattle.replay_runs.proofs.controls.Granting.{legal_grants_permits}
-use Rattle.replay_runs.proofs.controls.Joining.{enters, legal_joins_tasks}
+use Rattle.replay_runs.specs.controls.Laws.{control_number, controller, control_entries}
+use Rattle.replay_runs.specs.controls.Imitating.{law_script, made_of, ends_held, task_of, IsBefore, IsWithin, LeadsInto, ImitatesController, LegalImitatesController, LegalStartsWithScript}
+use Rattle.replay_runs.proofs.controls.Controllers.{acts-more, spelled-script, legal_has_controller, legal_makes_script}
 use Rattle.replay_runs.proofs.controls.Starts.{legal_starts_there}
 
--- one way after another
-then-into : (P : Task → Type 0) (n : ℕ) (t u : Task) → LeadsTo n t u → LeadsInto P u → LeadsInto P t
-then-into P zero t u e more = subst (LeadsInto P) (sym e) more
-then-into P (suc n) t u e more = let more_on = then-into P n (stepped t) u e.2 more in (suc more_on.0, more_on.1, (e.0, e.1, more_on.2), more_on.3)
-
--- the kind of a permit is a small number
-pub small-kind : (permit : law.Permit) → kind permit ≤ 2147483647
-small-kind (ToMeet e i) = omega arith
-small-kind ToFinish = omega arith
-small-kind ToElse = omega arith
-small-kind (ToDelay k) = omega arith
-small-kind (ToCallElse e i) = omega arith
-small-kind (ToExpire e i) = omega arith
-small-kind (ToFail e i) = omega arith
-small-kind ToEnd = omega arith
-small-kind (ToAbort x) = omega arith
-small-kind ToClose = omega arith
-
-module _ (p : PProgram) (events : List Event) (input : List ℤ) where
-  -- before the statements of its operations it is there, or a step away
-  next : (ops : List law.Op) → AllByRecursion (CanBeMade p) ops → LeadsInto (IsBefore p events input ops) (controller p events (map spelled ops) input)
-  next [] can = (0, controller p events [] input, refl, record { is = refl; can = can })
-  next (law.Go task permit ∷ ops) can = (0, controller p events (map spelled (law.Go task permit ∷ ops)) input, refl, record { is = refl; can = can })
-  next (law.Done task ∷ ops) can = (0, controller p events (map spelled (law.Done task ∷ ops)) input, refl, record { is = refl; can = can })
-  next (law.Join task ∷ ops) can = (1, joining p events task (map spelled ops) input, enters p events task (map spelled ops) input, record { is = refl; can = can })
-  next (law.Hold ∷ ops) can = (0, controller p events (map spelled (law.Hold ∷ ops)) input, refl, record { is = refl; can = can })
-
 module _ (far : Spots) (p : PProgram) (events : List Event) (input : List ℤ) (h : IsLegalOriginal p) where
-  offering : OffersNext far p events input
-  offering = legal_offers_next far p events input h
+  abbrev k : Controller
+  k = controller p events input
 
-  hears : HearsTasks far p events input
-  hears = legal_hears_tasks far p events input h
+  abbrev e : Entries
+  e = control_entries far p
 
-  grants : GrantsPermits far p events input
-  grants = legal_grants_permits far p events input h
-
-  joins : JoinsTasks far p events input
-  joins = legal_joins_tasks far p events input h
+  makes : MakesOperations k e
+  makes = controllers_make_operations k e (legal_has_controller far p events input h)
 
   abbrev Before : List law.Op → Task → Type 0
   Before ops = IsBefore p events input ops
@@ -82,59 +42,85 @@ module _ (far : Spots) (p : PProgram) (events : List Event) (input : List ℤ) (
   abbrev Within : law.Op → List law.Op → Task → Type 0
   Within op ops = IsWithin p events input op ops
 
-  silent-before : (ops : List law.Op) → (before p events input ops).output ≡ []
-  silent-before [] = refl
-  silent-before (law.Go task permit ∷ ops) = refl
-  silent-before (law.Done task ∷ ops) = refl
-  silent-before (law.Join task ∷ ops) = refl
-  silent-before (law.Hold ∷ ops) = refl
+  -- ---- before operations
 
-  offers-before : (ops : List law.Op) → AllByRecursion (CanBeMade p) ops → Offers (before p events input ops) (ops_offer (text_spots far (form_in p)) ops)
-  offers-before [] can = offering.ended
-  offers-before (law.Go task permit ∷ ops) can = offering.go task (kind permit) (arg permit) (index permit) (map spelled ops) can.0.0
-  offers-before (law.Done task ∷ ops) can = offering.done task (map spelled ops) can.0
-  offers-before (law.Join task ∷ ops) can =
-      subst (λ t. Offers (joining p events t (map spelled ops) input) (ops_offer (text_spots far (form_in p)) (law.Join t ∷ ops))) (sym can.0.1) (joins.calls can.0.0 (map spelled ops) can.0.2)
-  offers-before (law.Hold ∷ ops) can = offering.hold (map spelled ops)
+  -- what comes to before operations leads into being there
+  comes-before : (ops : List law.Op) (made : List Op) (t : Task) → CanMakeAll k (made ++ made_of ops) → Comes t (before k (ends_held ops) made (made_of ops)) → LeadsInto (Before ops) t
+  comes-before ops made t can way = (way.0, before k (ends_held ops) made (made_of ops), way.1, record { made = made; is = refl; can = can })
+
+  silent-before : (hold : Bool) (made left : List Op) → (before k hold made left).output ≡ []
+  silent-before hold made [] = refl
+  silent-before hold made (Go task kind arg index ∷ left) = refl
+  silent-before hold made (Done task ∷ left) = refl
+  silent-before hold made (Join task ∷ left) = refl
+  silent-before hold made (Hold ∷ left) = refl
+
+  -- its offer is the law's
+  offers-same : (ops : List law.Op) → next_offer e (ends_held ops) (made_of ops) ≡ ops_offer (text_spots far (form_in p)) ops
+  offers-same [] = refl
+  offers-same (law.Go task permit ∷ ops) = ap (next_offer e (ends_held ops)) (acts-more (spelled (law.Go task permit)) (map spelled ops) refl)
+  offers-same (law.Done task ∷ ops) = ap (next_offer e (ends_held ops)) (acts-more (Done task) (map spelled ops) refl)
+  offers-same (law.Join task ∷ ops) = ap (next_offer e (ends_held ops)) (acts-more (Join task) (map spelled ops) refl)
+  offers-same (law.Hold ∷ ops) = refl
+
+  -- the task is the controller before this operation and those behind it
+  record IsAt (op : Op) (ops : List law.Op) (t : Task) : Type 0 where
+    made : List Op
+    is : t ≡ before k (ends_held ops) made (op ∷ made_of ops)
+    can : CanMakeAll k (made ++ op ∷ made_of ops)
+
+  -- so it is where it does not wait for ever
+  is-at : (op : Op) (ops : List law.Op) (t : Task) (made : List Op) → is_hold op ≡ false → t ≡ before k (ends_held ops) made (acts (op ∷ map spelled ops)) → CanMakeAll k (made ++ acts (op ∷ map spelled ops)) → IsAt op ops t
+  is-at op ops t made acting is can =
+      let same = acts-more op (map spelled ops) acting in
+      record { made = made; is = is ∙ ap (before k (ends_held ops) made) same; can = subst (λ left. CanMakeAll k (made ++ left)) same can }
 
   -- ---- at the end of an accept body
 
-  -- what is so of the controller in each accept body is so where the task is it
-  at-end : (P : law.Op → Task → Type 0) (op : law.Op) (ops : List law.Op) →
-      ((task : ℕ) (permit : law.Permit) → P (law.Go task permit) (granted p events task (kind permit) (arg permit) (index permit) (map spelled ops) input)) →
-      ((task : ℕ) → P (law.Done task) (hearing p events task (map spelled ops) input)) → (j : Task) → within p events input op ops j → P op j
-  at-end P (law.Go task permit) ops go done j e = subst (P (law.Go task permit)) (sym e) (go task permit)
-  at-end P (law.Done task) ops go done j e = subst (P (law.Done task)) (sym e) (done task)
-  at-end P (law.Join task) ops go done j e = absurd e
-  at-end P law.Hold ops go done j e = absurd e
+  silent-within : (op : law.Op) (hold : Bool) (made left : List Op) (j : Task) → tables.IsWithin k hold made (spelled op) left (task_of op) j → j.output ≡ []
+  silent-within (law.Go task permit) hold made left j is = ap (λ (t : Task). t.output) is
+  silent-within (law.Done task) hold made left j is = ap (λ (t : Task). t.output) is
+  silent-within (law.Join task) hold made left j is = absurd is
+  silent-within law.Hold hold made left j is = absurd is
+
+  -- its caller is the law's
+  callers-same : (op : law.Op) (hold : Bool) (made left : List Op) (j : Task) → tables.IsWithin k hold made (spelled op) left (task_of op) j → callers_in j.control ≡ op_callers op
+  callers-same (law.Go task permit) hold made left j is = makes.callers hold made left (spelled (law.Go task permit)) task j is
+  callers-same (law.Done task) hold made left j is = makes.callers hold made left (Done task) task j is
+  callers-same (law.Join task) hold made left j is = absurd is
+  callers-same law.Hold hold made left j is = absurd is
+
+  -- ---- the law
 
   imitates : ImitatesController far p events input
   imitates = record {
-    output = λ ops j m. ap (λ (t : Task). t.output) m.is ∙ silent-before ops;
-    offers = λ ops j m. subst (λ t. Offers t (ops_offer (text_spots far (form_in p)) ops)) (sym m.is) (offers-before ops m.can);
-    asked = λ task permit ops calling j m.
-        let way = grants.accepts task (kind permit) (arg permit) (index permit) task calling (map spelled ops) m.can.0.0 (small-kind permit) m.can.0.1 m.can.0.2 in (
-          3,
-          granted p events task (kind permit) (arg permit) (index permit) (map spelled ops) input,
-          subst (λ t. LeadsTo 3 (accepted (text_spots far (form_in p)).go (pos task) task calling t) (granted p events task (kind permit) (arg permit) (index permit) (map spelled ops) input)) (sym m.is) way,
-          record { is = refl; can = m.can },
-        );
-    told = λ task ops calling j m. (
-      0,
-      hearing p events task (map spelled ops) input,
-      ap (accepted (text_spots far (form_in p)).done (pos task) task calling) m.is ∙ hears.accepts task task calling (map spelled ops) m.can.0,
-      record { is = refl; can = m.can },
-    );
-    joined = λ task ops j m. subst (λ t. LeadsInto (Before ops) (call_failed t)) (sym m.is) (then-into (Before ops) 1 (call_failed (joining p events task (map spelled ops) input)) (controller p events (map spelled ops) input) (joins.goes_on task (map spelled ops)) (next p events input ops m.can.1));
-    silent = λ op ops j m. at-end (λ o t. t.output ≡ []) op ops (λ task permit. refl) (λ task. refl) j m.is;
-    ends = λ op ops j m. at-end (λ o t. Offers t Finishes) op ops (λ task permit. grants.ends task (kind permit) (arg permit) (index permit) (map spelled ops)) (λ task. hears.ends task (map spelled ops)) j m.is;
-    callers = λ op ops j m. at-end (λ o t. callers_in t.control ≡ op_callers o) op ops (λ task permit. grants.callers task (kind permit) (arg permit) (index permit) (map spelled ops)) (λ task. hears.callers task (map spelled ops)) j m.is;
-    grants = λ task permit ops j m. subst (λ (u : Task). (pending_of u ≡ None) × (finals_of u ≡ permit_values permit)) (sym m.is) (grants.hands task (kind permit) (arg permit) (index permit) (map spelled ops));
-    hears = λ task ops j m. subst (λ (u : Task). (pending_of u ≡ None) × (finals_of u ≡ [])) (sym m.is) (hears.hands task (map spelled ops));
+    output = λ ops j m. ap (λ (t : Task). t.output) m.is ∙ silent-before (ends_held ops) m.made (made_of ops);
+    offers = λ ops j m.
+        subst (λ t. Offers t (ops_offer (text_spots far (form_in p)) ops)) (sym m.is)
+        (subst (Offers (before k (ends_held ops) m.made (made_of ops))) (offers-same ops) (makes.offers (ends_held ops) m.made (made_of ops) m.can));
+    asked = λ task permit ops calling j n.
+        let m = is-at (spelled (law.Go task permit)) ops j n.made refl n.is n.can in
+        let way = makes.grants (ends_held ops) m.made (made_of ops) task (kind permit) (arg permit) (index permit) task calling m.can in
+        subst (λ t. LeadsInto (Within (law.Go task permit) ops) (accepted e.go (pos task) task calling t)) (sym m.is)
+        (way.1.0, way.0, way.1.1, record { made = m.made; is = way.2; can = m.can });
+    told = λ task ops calling j n.
+        let m = is-at (Done task) ops j n.made refl n.is n.can in
+        let there = makes.hears (ends_held ops) m.made (made_of ops) task task calling m.can in
+        subst (λ t. LeadsInto (Within (law.Done task) ops) (accepted e.done (pos task) task calling t)) (sym m.is)
+        (0, accepted e.done (pos task) task calling (before k (ends_held ops) m.made (Done task ∷ made_of ops)), refl, record { made = m.made; is = there; can = m.can });
+    joined = λ task ops j n.
+        let m = is-at (Join task) ops j n.made refl n.is n.can in
+        subst (λ t. LeadsInto (Before ops) (call_failed t)) (sym m.is)
+        (comes-before ops (m.made ++ Join task ∷ []) (call_failed (before k (ends_held ops) m.made (Join task ∷ made_of ops))) (moved k m.made (Join task) (made_of ops) m.can)
+        (makes.joins (ends_held ops) m.made (made_of ops) task m.can));
+    silent = λ op ops j m. silent-within op (ends_held ops) m.made (made_of ops) j m.is;
+    ends = λ op ops j m. makes.ends (ends_held ops) m.made (made_of ops) (spelled op) (task_of op) j m.is;
+    callers = λ op ops j m. callers-same op (ends_held ops) m.made (made_of ops) j m.is;
+    grants = λ task permit ops j m. makes.hands (ends_held ops) m.made (made_of ops) (spelled (law.Go task permit)) task j m.is;
+    hears = λ task ops j m. makes.hands (ends_held ops) m.made (made_of ops) (Done task) task j m.is;
     handed = λ op ops j m.
-        at-end (λ o t. LeadsInto (Before ops) (finished t)) op ops
-        (λ task permit. subst (LeadsInto (Before ops)) (sym (grants.finishes task (kind permit) (arg permit) (index permit) (map spelled ops))) (next p events input ops m.can.1))
-        (λ task. subst (LeadsInto (Before ops)) (sym (hears.finishes task (map spelled ops))) (next p events input ops m.can.1)) j m.is;
+        comes-before ops (m.made ++ spelled op ∷ []) (finished j) (moved k m.made (spelled op) (made_of ops) m.can)
+        (makes.goes_on (ends_held ops) m.made (made_of ops) (spelled op) (task_of op) j m.can m.is);
   }
 
 pub legal_imitates_controller : LegalImitatesController
@@ -142,41 +128,16 @@ legal_imitates_controller = imitates
 
 -- ---- the script
 
-module _ (p : PProgram) (h : IsLegalOriginal p) where
-  abbrev numbers : Numbering
-  numbers = numbers_of p
-
-  some-tasks : 0 < length numbers.tasks
-  some-tasks = let e = as-many-numbers p h in omega (arith, e)
-
-  -- the number of a task beside main
-  beside : (t : ℕ) → is_task_beside_main numbers t ≡ true → (k : ℕ) × (t ≡ suc k) × (k < last_task (form_in p).numbers)
-  beside zero b = let none : 0 < 0 = lt_is 0 0 (and_right (is_task numbers 0) _ b) in absurd (omega (arith, none))
-  beside (suc k) b =
-      let l : suc k < length numbers.tasks = lt_is (suc k) (length numbers.tasks) (and_left (is_task numbers (suc k)) _ b) in
-      let e = as-many-numbers p h in (k, refl, omega (arith, l, e))
-
-  can-be-made : (ops : List law.Op) → AllByRecursion (IsBounded numbers some-tasks) (map spelled ops) → AllByRecursion HasLiteral (map spelled ops) → AllByRecursion (CanBeMade p) ops
-  can-be-made [] b l = tt
-  can-be-made (law.Go task permit ∷ ops) b l =
-      let e = as-many-numbers p h in
-      let at : task < length numbers.tasks = b.0.0 in ((omega (arith, at, e), l.0, b.0.1), can-be-made ops b.1 l.1)
-  can-be-made (law.Done task ∷ ops) b l = let e = as-many-numbers p h in let at : task < length numbers.tasks = b.0 in (omega (arith, at, e), can-be-made ops b.1 l.1)
-  can-be-made (law.Join task ∷ ops) b l = (beside task b.0, can-be-made ops b.1 l.1)
-  can-be-made (law.Hold ∷ ops) b l = (tt, can-be-made ops b.1 l.1)
-
-  spelled-script : (events : List Event) → script_of numbers events ≡ map spelled (law_script p events)
-  spelled-script events = spells (owner_of numbers) (length numbers.tasks) events
-
-  script-can : (events : List Event) → AreKnown p events → AllByRecursion (CanBeMade p) (law_script p events)
-  script-can events known =
-      can-be-made (law_script p events)
-      (subst (AllByRecursion (IsBounded numbers some-tasks)) (spelled-script events) (script-bounded numbers some-tasks events (recursion_from_All (λ e. is_known numbers e ≡ true) events known)))
-      (subst (AllByRecursion HasLiteral) (spelled-script events) (known_have_literals p events h.legal.check_rules known).1)
+-- numbers behind all, of which nothing is asked
+nowhere : Spots
+nowhere = record { original = λ e. 0; shadow = λ e. 0; go = 0; done = 0; hold = 0; join = λ t. 0; never = λ t. 0; stop = 0; rest = 0; sort = λ m. AtNothing }
 
 pub legal_starts_with_script : LegalStartsWithScript
 legal_starts_with_script p events inputs h known =
     let input = slice_index_or inputs (control_number p) [] in
+    let k = controller p events input in
+    let can : CanMakeAll k (made_of (law_script p events)) = subst (λ ops. CanMakeAll k (acts ops)) (spelled-script p events) (legal_makes_script p events input h known) in
     subst (LeadsInto (IsBefore p events input (law_script p events)))
-    (sym ((legal_starts_there p events inputs h).control ∙ ap (λ ops. controller p events ops input) (spelled-script p h events)))
-    (next p events input (law_script p events) (script-can p h events known))
+    (sym ((legal_starts_there p events inputs h).control ∙ ap (starting k) (spelled-script p events)))
+    (comes-before nowhere p events input h (law_script p events) [] (starting k (map spelled (law_script p events))) can
+    ((makes nowhere p events input h).starts (map spelled (law_script p events)) can))

@@ -1,6 +1,6 @@
--- What the controller and the idle task offer.
-use Rattle.std.proofs.Common.{◌≡◌, ℕ, ◌+◌, ◌≤◌, Bool, false, if◌then◌else◌, List, [], ◌∷◌, length, Some, unwrap_or, refl, sym, ap, ◌∙◌, subst, arith}
-use Rattle.std.specs.Prelude.{ℤ, pos, suc, ◌&&◌, int_le, Result, Ok, Err}
+-- What the idle task offers, and where the entries of both tasks are found.
+use Rattle.std.proofs.Common.{◌≡◌, ℕ, ◌+◌, ◌≤◌, Bool, if◌then◌else◌, List, [], ◌∷◌, length, Some, unwrap_or, refl, sym, ap, ◌∙◌, subst, arith}
+use Rattle.std.specs.Prelude.{pos, suc, ◌&&◌, int_le, Ok, Err}
 use Rattle.std.proofs.lemmas.Bool.{le-leb}
 use Rattle.std.proofs.lemmas.List.{length-map}
 use Rattle.event_machine.specs.declared.Choice.TheVariants.{Accept, Terminate}
@@ -8,12 +8,10 @@ use Rattle.event_machine.specs.declared.Event.{Event}
 use Rattle.event_machine.specs.Offers.{Waits}
 use Rattle.ada_tree.specs.declared.naming.Span.{Span}
 use Rattle.ada_tree.specs.PlainExpr.{EInteger}
-use Rattle.ada_tree.specs.PlainStmt.{PHead, PStmts, no_stmt}
 use Rattle.ada_tree.specs.PlainDecl.{PTask}
 use Rattle.ada_tree.specs.PlainProgram.{PProgram}
 use Rattle.ada_static_rules.specs.Refusals.{types_in}
 use Rattle.ada_value.specs.declared.values.Value.TheVariants.{Number}
-use Rattle.ada_value.specs.declared.values.Raised.{Raised}
 use Rattle.ada_value.specs.declared.values.Raised.TheVariants as raised
 use Rattle.ada_value.specs.Values.{and_then, position_of}
 use Rattle.ada_value.specs.Variables.{Variables}
@@ -25,25 +23,23 @@ use Rattle.syn_event.specs.AddedNames.{task_info}
 use Rattle.syn_event.specs.NamedTasks.{numbered_tasks}
 use Rattle.syn_event.specs.DeclaredTasks.{tasks_of}
 use Rattle.task_model.specs.Setting.{Setting, entry_of, family_limits, index_in, member_index}
-use Rattle.task_model.specs.Stands.{Stand, wait_stand, steps_at, offered}
-use Rattle.task_model.specs.Waits.{Open, Accepts}
-use Rattle.normal_runs.specs.forms.Normalisable.{setting_for, made_for}
-use Rattle.normal_structure.proofs.numbers.Tasked.{under, normal-tasks-of}
-use Rattle.normalisable.specs.Laws.{IsLegalOriginal}
-use Rattle.normal_is_legal.proofs.checks.Facts as facts
+use Rattle.normal_laws.specs.runs.forms.Normalisable.{setting_for, made_for}
+use Rattle.normal_laws.proofs.structure.numbers.Tasked.{under, normal-tasks-of}
+use Rattle.normal_laws.specs.existence.Laws.{IsLegalOriginal}
+use Rattle.normal_laws.proofs.legality.checks.Facts as facts
 use Rattle.replay_is_legal.proofs.fits.Counted.{tasks-within}
 use Rattle.run_laws.specs.replaying.Copies.{Spots}
-use Rattle.replay_model.specs.Names.{go_text, done_text, hold_text, rest_text, added_id}
+use Rattle.replay_model.specs.Names.{rest_text, added_id}
 use Rattle.replay_model.specs.ReplayTree.{last_task}
-use Rattle.replay_model.specs.ReplayNumbers.{family_info, numbers_replayed}
+use Rattle.replay_model.specs.ReplayNumbers.{numbers_replayed}
 use Rattle.replay_structure.specs.spots.Places.{text_spots}
-use Rattle.replay_structure.specs.spots.Laws.{IsThere, AreThere}
+use Rattle.replay_structure.specs.spots.Laws.{AreThere}
 use Rattle.replay_structure.proofs.spots.Placed.{spots_are_there}
 use Rattle.replay_structure.proofs.spots.Looked.{added_are_found}
 use Rattle.replay_structure.proofs.spots.Ordered.{normal_is_in_order}
 use Rattle.replay_runs.specs.starts.Laws.{form_in}
 use Rattle.replay_runs.specs.starts.Formals.{text_setting}
-use Rattle.replay_runs.specs.controls.Laws.{control_number, IdleWaits, OffersNext, LegalOffersNext}
+use Rattle.replay_runs.specs.controls.Laws.{control_number, IdleWaits}
 
 -- ---- an index
 
@@ -61,12 +57,6 @@ index-is g vars e n last s x at first its_last l h =
     ∙ ap (λ z. if int_le (pos 0) (pos n) && int_le (pos n) z then Ok (pos n) else Err raised.Constraint) its_last
     ∙ ap (λ (b : Bool). if b && int_le (pos n) (pos last) then Ok (pos n) else Err raised.Constraint) (le-leb 0 n (omega arith))
     ∙ ap (λ (b : Bool). if b then Ok (pos n) else Err raised.Constraint) (le-leb n last l)
-
--- ---- an accept statement
-
--- at what a task stands that accepts a member of an entry, by the member's index
-abbrev accept_stand : ℕ → PHead → PStmts → Result ℤ Raised → Stand
-accept_stand e head stmts index = wait_stand false (and_then (and_then index (λ i. Ok (Accepts e i head stmts no_stmt))) (λ (o : Open). Ok (o ∷ [])))
 
 -- ---- the idle task
 
@@ -120,35 +110,3 @@ module _ (far : Spots) (p : PProgram) (events : List Event) (h : IsLegalOriginal
   looked text spot found =
       let e : last + 1 ≡ control_number p = omega arith in
       ap (λ o. unwrap_or o 0) (subst (λ n. entry_named x.numbers n (added_id g.program text) ≡ Some spot) e found)
-
-  module _ (text : List ℕ) (spot : ℕ) (found : entry_named x.numbers (last + 1) (added_id g.program text) ≡ Some spot) (its : IsThere x.numbers spot (family_info g.program (last + 1) text last)) (n : ℕ) (l : n ≤ last) where
-    abbrev pub e : ℕ
-    e = entry_of x.numbers (control_number p) (added_id g.program text)
-
-    pub its-index : (s : Span) → member_index x [] e (Some (EInteger n s)) ≡ Ok (pos n)
-    its-index s =
-        index-is x [] e n last s its.found (ap (entry_at x.numbers) (looked text spot found) ∙ its.at) its.same.first its.same.last l
-        (let k : last ≤ 200 = few in omega (arith, k, l))
-
-    family-rests : (head : PHead) (stmts : PStmts) (s : Span) → steps_at (accept_stand e head stmts (member_index x [] e (Some (EInteger n s)))) ≡ false
-    family-rests head stmts s = ap (λ m. steps_at (accept_stand e head stmts m)) (its-index s)
-
-    family-offer : (head : PHead) (stmts : PStmts) (s : Span) → offered (accept_stand e head stmts (member_index x [] e (Some (EInteger n s)))) ≡ Waits (Accept spot (pos n) ∷ [])
-    family-offer head stmts s = ap (λ m. offered (accept_stand e head stmts m)) (its-index s) ∙ ap (λ k. Waits (Accept k (pos n) ∷ [])) (looked text spot found)
-
-  offers_next : (input : List ℤ) → OffersNext far p events input
-  offers_next input = record {
-    ended = record { rests = refl; offers = refl };
-    go = λ task kind arg index ops l. record {
-      rests = family-rests go_text spots.go (added_are_found far g).go there.go task l _ _ g.program.name.span;
-      offers = family-offer go_text spots.go (added_are_found far g).go there.go task l _ _ g.program.name.span;
-    };
-    done = λ task ops l. record {
-      rests = family-rests done_text spots.done (added_are_found far g).done there.done task l _ _ g.program.name.span;
-      offers = family-offer done_text spots.done (added_are_found far g).done there.done task l _ _ g.program.name.span;
-    };
-    hold = λ ops. record { rests = refl; offers = ap (λ k. Waits (Accept k (pos 0) ∷ [])) (looked hold_text spots.hold (added_are_found far g).hold) };
-  }
-
-pub legal_offers_next : LegalOffersNext
-legal_offers_next far p events input h = offers_next far p events h input

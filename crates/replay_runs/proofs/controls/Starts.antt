@@ -1,4 +1,4 @@
--- The controller and the idle task run their bodies, so they start before the first statements of these.
+-- The controller and the idle task run their bodies, so they start with the objects and the statements of these.
 use Rattle.std.proofs.Common.{suc, [], ap}
 use Rattle.std.specs.Prelude.{slice_index_or}
 use Rattle.ada_static_rules.specs.Refusals.{types_in}

@@ -11,7 +11,7 @@ use Rattle.replay_model.specs.Names.{never_text, join_text, added_id}
 use Rattle.replay_model.specs.ReplayTree.{last_task, normal_setting}
 use Rattle.replay_model.specs.ReplayNumbers.{own_entries, numbers_replayed}
 use Rattle.run_laws.proofs.replaying.Twins.{numbering}
-use Rattle.normal_structure.proofs.types.Examples.{original, ordered}
+use Rattle.normal_laws.proofs.structure.types.Examples.{original, ordered}
 use Rattle.replay_structure.specs.typed.ScopeOf.{double_id}
 use Rattle.replay_structure.specs.scopes.Names.{old_name}
 use Rattle.replay_structure.proofs.spots.Ordered.{normal_is_in_order}

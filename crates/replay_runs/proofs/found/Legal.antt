@@ -13,12 +13,12 @@ use Rattle.syn_event.specs.AddedNames.{task_info}
 use Rattle.syn_event.specs.NamedTasks.{NumberedTask, numbered_tasks}
 use Rattle.syn_event.specs.AllNumbers.{entries_of_tasks}
 use Rattle.syn_event.specs.DeclaredTasks.{decl_list, tasks_in, tasks_of}
-use Rattle.normal_structure.specs.types.Laws.{IsOrdered}
-use Rattle.normal_runs.specs.forms.Normalisable.{numbers_of, setting_for, made_for}
-use Rattle.normal_structure.proofs.placed.Whole.{each-of}
-use Rattle.normalisable.specs.Laws.{IsLegalOriginal}
-use Rattle.normalisable.proofs.units.Fields.{legal_is_ordered}
-use Rattle.normal_structure.proofs.numbers.Tasked.{under, normal-tasks-of}
+use Rattle.normal_laws.specs.structure.types.Laws.{IsOrdered}
+use Rattle.normal_laws.specs.runs.forms.Normalisable.{numbers_of, setting_for, made_for}
+use Rattle.normal_laws.proofs.structure.placed.Whole.{each-of}
+use Rattle.normal_laws.specs.existence.Laws.{IsLegalOriginal}
+use Rattle.normal_laws.proofs.existence.units.Fields.{legal_is_ordered}
+use Rattle.normal_laws.proofs.structure.numbers.Tasked.{under, normal-tasks-of}
 use Rattle.replay_model.specs.Names.{never_text, join_text, added_id}
 use Rattle.replay_model.specs.ReplayTree.{is_task, last_task}
 use Rattle.replay_model.specs.ReplayNumbers.{own_entries}

@@ -12,11 +12,11 @@ use Rattle.syn_event.specs.CheckSites as check
 use Rattle.syn_event.specs.NamedTasks.{NumberedTask, task_names_of, numbered_tasks}
 use Rattle.syn_event.specs.AllNumbers.{info_of_task}
 use Rattle.syn_event.specs.DeclaredTasks.{decl_list, tasks_in}
-use Rattle.normal_structure.proofs.units.Declared.{parts-all, numbered-tasks-all}
-use Rattle.normalisable.specs.Laws.{IsLegalOriginal}
-use Rattle.normal_is_legal.proofs.numbers.Numbered.{none_legal_is_ded}
-use Rattle.normal_is_legal.proofs.checks.Facts as facts
-use Rattle.normal_is_legal.proofs.checks.Sizes.{DeclSized, decls-sized}
+use Rattle.normal_laws.proofs.structure.units.Declared.{parts-all, numbered-tasks-all}
+use Rattle.normal_laws.specs.existence.Laws.{IsLegalOriginal}
+use Rattle.normal_laws.proofs.legality.numbers.Numbered.{none_legal_is_ded}
+use Rattle.normal_laws.proofs.legality.checks.Facts as facts
+use Rattle.normal_laws.proofs.legality.checks.Sizes.{DeclSized, decls-sized}
 use Rattle.replay_structure.specs.bodies.Laws.{has_body}
 use Rattle.replay_structure.proofs.bodies.Programs.{programs_run}
 use Rattle.replay_runs.specs.starts.Legal.{LegalHasBodies, LegalRuns}

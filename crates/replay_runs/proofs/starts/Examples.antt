@@ -7,11 +7,11 @@ use Rattle.ada_tree.specs.NameList.{predefined, AreNames}
 use Rattle.ada_static_rules.specs.Refusals.{types_in}
 use Rattle.ada_tree.proofs.Interning.{AreNames-added, AreNames-predefined}
 use Rattle.syn_event.specs.AllNumbers.{all_numbers}
-use Rattle.normal_structure.specs.types.Laws.{setting_of}
-use Rattle.normal_structure.proofs.types.Examples.{original, ordered, own}
-use Rattle.normal_structure.proofs.numbers.Examples.{none_is_ded}
-use Rattle.normal_runs.specs.forms.Choosing.{choosing}
-use Rattle.normalisable.proofs.Instance.{choosing-is-legal}
+use Rattle.normal_laws.specs.structure.types.Laws.{setting_of}
+use Rattle.normal_laws.proofs.structure.types.Examples.{original, ordered, own}
+use Rattle.normal_laws.proofs.structure.numbers.Examples.{none_is_ded}
+use Rattle.normal_laws.specs.runs.forms.Choosing.{choosing}
+use Rattle.normal_laws.proofs.existence.Instance.{choosing-is-legal}
 use Rattle.run_laws.proofs.replaying.Twins.{numbering}
 use Rattle.replay_structure.specs.bodies.Laws.{HasBodies}
 use Rattle.replay_runs.specs.starts.Laws.{AddsOwnMarks, TextStarts}

@@ -39,12 +39,12 @@ use Rattle.replay_model.specs.ReplayNumbers.{plain_info, double_info, numbers_re
 use Rattle.legal_programs.proofs.rewritten_types.Keeping.{apart}
 use Rattle.legal_programs.proofs.rewritten_types.Lookups.{find-all, place-all}
 use Rattle.legal_programs.specs.rewritten_values.Values.{old_names}
-use Rattle.normal_structure.specs.types.Own.{own_name}
-use Rattle.normal_structure.specs.types.Laws.{IsOrdered, setting_of, AreOwn}
-use Rattle.normal_structure.specs.numbers.Laws.{NoneIsDed}
-use Rattle.normal_structure.proofs.numbers.Named.{Has, IsReserved, text-there, text-longer, reserved-added, reserved-new, own-within}
-use Rattle.normal_structure.proofs.numbers.Tasked.{under, normal-tasks-of}
-use Rattle.normal_structure.proofs.numbers.TaskNames.{normal-begins, entries-own}
+use Rattle.normal_laws.specs.structure.types.Own.{own_name}
+use Rattle.normal_laws.specs.structure.types.Laws.{IsOrdered, setting_of, AreOwn}
+use Rattle.normal_laws.specs.structure.numbers.Laws.{NoneIsDed}
+use Rattle.normal_laws.proofs.structure.numbers.Named.{Has, IsReserved, text-there, text-longer, reserved-added, reserved-new, own-within}
+use Rattle.normal_laws.proofs.structure.numbers.Tasked.{under, normal-tasks-of}
+use Rattle.normal_laws.proofs.structure.numbers.TaskNames.{normal-begins, entries-own}
 use Rattle.replay_structure.proofs.texts.Listed.{more_task, added_tasks, replay-tasks}
 use Rattle.replay_structure.proofs.texts.Rooted.{replay-has, ids-apart, text-begins, replay_agrees}
 use Rattle.replay_structure.proofs.texts.Entries.{IsKept, IsTaskKept}

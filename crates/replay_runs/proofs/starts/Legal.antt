@@ -33,15 +33,15 @@ use Rattle.legal_programs.proofs.rewritten_types.Unmarked.{unvalued_has_no_mark}
 use Rattle.legal_programs.proofs.rewritten_types.NamedKinds.{kinds_are_named}
 use Rattle.legal_programs.specs.rewritten_values.Values.{old_names}
 use Rattle.legal_programs.specs.types.Typed.{HasLimits}
-use Rattle.normal_structure.specs.types.Own.{own_name}
-use Rattle.normal_structure.specs.types.Laws.{setting_of}
-use Rattle.normal_structure.proofs.placed.Added.{AreSubtypes, AreVariablesFrom, unit-from}
-use Rattle.normalisable.specs.variable_types.Ready.{IsReady}
-use Rattle.normalisable.proofs.variable_types.SubtypeForms.{predefined-own, meant-own}
-use Rattle.normalisable.proofs.variable_types.Numbers.{range-is}
-use Rattle.normalisable.proofs.variable_types.Subtypes.{own_rule, entry-known, array-own, IsScalarFormal, formals-known}
-use Rattle.normal_is_legal.proofs.numbers.Numbered.{none_legal_is_ded}
-use Rattle.normal_is_legal.proofs.checks.Facts as facts
+use Rattle.normal_laws.specs.structure.types.Own.{own_name}
+use Rattle.normal_laws.specs.structure.types.Laws.{setting_of}
+use Rattle.normal_laws.proofs.structure.placed.Added.{AreSubtypes, AreVariablesFrom, unit-from}
+use Rattle.normal_laws.specs.existence.variable_types.Ready.{IsReady}
+use Rattle.normal_laws.proofs.existence.variable_types.SubtypeForms.{predefined-own, meant-own}
+use Rattle.normal_laws.proofs.existence.variable_types.Numbers.{range-is}
+use Rattle.normal_laws.proofs.existence.variable_types.Subtypes.{own_rule, entry-known, array-own, IsScalarFormal, formals-known}
+use Rattle.normal_laws.proofs.legality.numbers.Numbered.{none_legal_is_ded}
+use Rattle.normal_laws.proofs.legality.checks.Facts as facts
 use Rattle.replay_runs.specs.starts.Laws.{HasOwnMark, HasOwnVariables, AddsOwnMarks}
 use Rattle.replay_runs.specs.starts.Legal.{LegalIsAsked, LegalStarts, LegalHasFormals}
 use Rattle.replay_runs.proofs.starts.Bodies.{legal_has_bodies}

@@ -23,13 +23,13 @@ use Rattle.task_model.specs.Starting.{Unit, form_of, object_of, with_objects, is
 use Rattle.normal_model.specs.Names.{variable_name}
 use Rattle.normal_model.specs.NormalStmts.{normal_body, unit_variables}
 use Rattle.normal_model.specs.NormalTree.{decls_front, first_decls, unit_for, first_running, running, body_copy, bodies_of, main_unit, main_variables, variables_if, variables_of_body, greatest, variables_needed}
-use Rattle.normal_structure.proofs.types.Normal.{first-every}
-use Rattle.normal_structure.proofs.types.Variables.{all-mapped}
-use Rattle.normal_structure.proofs.units.Tasks.{list-front}
-use Rattle.normal_runs.specs.forms.Normalisable.{setting_for, made_for}
-use Rattle.normal_runs.proofs.forms.Numbered.{AreNumbered, none_numbered, numbered_then, unit-numbered}
-use Rattle.normalisable.specs.Laws.{IsLegalOriginal}
-use Rattle.normal_is_legal.proofs.declares_once.Good.{good_names, program-good}
+use Rattle.normal_laws.proofs.structure.types.Normal.{first-every}
+use Rattle.normal_laws.proofs.structure.types.Variables.{all-mapped}
+use Rattle.normal_laws.proofs.structure.units.Tasks.{list-front}
+use Rattle.normal_laws.specs.runs.forms.Normalisable.{setting_for, made_for}
+use Rattle.normal_laws.proofs.runs.forms.Numbered.{AreNumbered, none_numbered, numbered_then, unit-numbered}
+use Rattle.normal_laws.specs.existence.Laws.{IsLegalOriginal}
+use Rattle.normal_laws.proofs.legality.declares_once.Good.{good_names, program-good}
 use Rattle.replay_model.specs.Names.{kind_text, argument_text, index_text}
 use Rattle.replay_structure.proofs.texts.Rooted.{replay-has}
 use Rattle.replay_structure.proofs.bodies.Bodies.{unit-at}

@@ -26,13 +26,13 @@ use Rattle.legal_programs.specs.rewritten_types.Agreement.{Agrees}
 use Rattle.legal_programs.specs.rewritten_types.Laws.{behind}
 use Rattle.legal_programs.proofs.rewritten_types.Rooting.{rooted_agrees}
 use Rattle.legal_programs.specs.rewritten_values.Values.{old_names}
-use Rattle.normal_structure.specs.types.Own.{own_name}
-use Rattle.normal_structure.specs.types.Laws.{IsOrdered, setting_of, AreOwn}
-use Rattle.normal_structure.proofs.types.Normal.{normal_is_rooted, first-every}
-use Rattle.normal_structure.proofs.types.Variables.{IsTaskOrBody, all-mapped}
-use Rattle.normal_structure.proofs.units.Tasks.{list-front}
-use Rattle.normal_structure.specs.numbers.Laws.{NoneIsDed}
-use Rattle.normal_structure.proofs.numbers.Listed.{IsPlain, IsOneTask, first-plain, firsts, vars, tasks, bodies, vars-plain, tasks-all, normal-list}
+use Rattle.normal_laws.specs.structure.types.Own.{own_name}
+use Rattle.normal_laws.specs.structure.types.Laws.{IsOrdered, setting_of, AreOwn}
+use Rattle.normal_laws.proofs.structure.types.Normal.{normal_is_rooted, first-every}
+use Rattle.normal_laws.proofs.structure.types.Variables.{IsTaskOrBody, all-mapped}
+use Rattle.normal_laws.proofs.structure.units.Tasks.{list-front}
+use Rattle.normal_laws.specs.structure.numbers.Laws.{NoneIsDed}
+use Rattle.normal_laws.proofs.structure.numbers.Listed.{IsPlain, IsOneTask, first-plain, firsts, vars, tasks, bodies, vars-plain, tasks-all, normal-list}
 use Rattle.replay_structure.proofs.texts.Listed.{normal-plain}
 use Rattle.replay_structure.proofs.texts.Rooted.{replay_is_rooted}
 use Rattle.replay_structure.specs.bodies.Laws.{HasBodies, RunsUnits}
@@ -349,9 +349,6 @@ module _ (p : PProgram) (events : List Event) (ordered : IsOrdered p) (own : Are
         (ap₂ (λ (b : Bool) x. objects_of T b x []) (ap (λ (x : Unit). x.in_main) at_name ∙ beside-main normal.decls info.unit) (sym (list_again u.decls)))
         (ap (λ (x : Unit). objects_of U x.in_main x.decls []) run.1)
 
-    control-starts : start_after p events (suc (last_task g.numbers)) ≡ []
-    control-starts = ap (λ (x : Unit). objects_of U x.in_main x.decls []) runs.added.control
-
     idle-starts : start_after p events (suc (suc (last_task g.numbers))) ≡ []
     idle-starts = ap (λ (x : Unit). objects_of U x.in_main x.decls []) runs.added.idle
 
@@ -359,6 +356,5 @@ pub texts_start : TextsStart
 texts_start p events ordered own ded has adds = record {
   main = main-starts p events ordered own adds;
   tasks = task-starts p events ordered own adds ded has;
-  control = control-starts p events ordered own adds ded has;
   idle = idle-starts p events ordered own adds ded has;
 }

@@ -12,8 +12,8 @@ use Rattle.task_laws.specs.translation.Floors.{IsTranslation}
 use Rattle.task_laws.proofs.translation.Locals.{step-in-loops, raises-alike, of_settle}
 use Rattle.normal_model.specs.RewrittenUnit.{RewrittenUnit}
 use Rattle.normal_model.specs.Walk.{after_stmts, rewritten, inside_handlers}
-use Rattle.normal_runs.specs.floors.NormalFloors.{no_floor}
-use Rattle.normal_runs.specs.floors.Preludes.{reaches_here, reaches_by}
+use Rattle.normal_laws.specs.runs.floors.NormalFloors.{no_floor}
+use Rattle.normal_laws.specs.runs.floors.Preludes.{reaches_here, reaches_by}
 use Rattle.replay_model.specs.ReplayStmts.{replay_rewriter}
 use Rattle.replay_structure.proofs.asked.Kept.{still_stmts}
 use Rattle.replay_runs.specs.translation.Rows.{Replayed, replayed_rows}

@@ -20,9 +20,9 @@ use Rattle.task_laws.proofs.translation.Handlers.{Taken, not_taken, taken, handl
 use Rattle.task_laws.proofs.translation.Frames.{sees-alike, set-alike, add-alike, handled-alike}
 use Rattle.task_laws.proofs.translation.Mapping.{settle-map}
 use Rattle.normal_model.specs.RewrittenUnit.{RewrittenUnit}
-use Rattle.normal_runs.specs.floors.NormalFloors.{Extends, AreOpen, none_open, open_then, no_floor, on_floors}
-use Rattle.normal_runs.proofs.floors.Cells.{cell-any, cell-behind}
-use Rattle.normal_runs.proofs.floors.Extending.{Fronts, fronts, extends-sees, extends-set, extends-add, own-sees, own-set, own-add}
+use Rattle.normal_laws.specs.runs.floors.NormalFloors.{Extends, AreOpen, none_open, open_then, no_floor, on_floors}
+use Rattle.normal_laws.proofs.runs.floors.Cells.{cell-any, cell-behind}
+use Rattle.normal_laws.proofs.runs.floors.Extending.{Fronts, fronts, extends-sees, extends-set, extends-add, own-sees, own-set, own-add}
 use Rattle.replay_runs.specs.translation.Floors.{HasPermit, IsPermitAdded, ends_unit, ends_body, unit_frame, unit_block, body_frame, frames_outside, OpenAccept, ReplayFloor, plain_body, handled_body, taken_handler, accept_body, AtAsking, unit_over, unit_left, body_over, body_left, over_floors, below_at, into_replay}
 
 -- ---- the variables of a permit

@@ -8,9 +8,9 @@ use Rattle.ada_value.specs.Values.{integer_limits}
 use Rattle.ada_value.specs.Variables.{Object, Variables, object_named}
 use Rattle.task_laws.specs.translation.OldTexts.{old_body, old_stmt, old_no_stmt, old_null, old_no_handler}
 use Rattle.normal_model.specs.RewrittenUnit.{RewrittenUnit}
-use Rattle.normal_runs.specs.floors.Preludes.{cell}
-use Rattle.normal_runs.proofs.floors.Cells.{cell-behind}
-use Rattle.normal_runs.specs.floors.NormalFloors.{extends_none, extends_new}
+use Rattle.normal_laws.specs.runs.floors.Preludes.{cell}
+use Rattle.normal_laws.proofs.runs.floors.Cells.{cell-behind}
+use Rattle.normal_laws.specs.runs.floors.NormalFloors.{extends_none, extends_new}
 use Rattle.replay_model.specs.Names.{kind_text, argument_text, index_text, added_id}
 use Rattle.replay_structure.proofs.texts.Rooted.{ids-apart}
 use Rattle.replay_runs.specs.translation.Floors.{IsNumberVariable}

@@ -8,7 +8,7 @@ use Rattle.normal_model.specs.Walk.{rewritten, inside_maybe, inside_arms, inside
 use Rattle.normal_model.proofs.WalkLemmas.{in_front-joined}
 use Rattle.task_laws.specs.translation.OldTexts.{Asked, OldCallees, old_no_callee, old_callee, OldStmt, old_null, old_assign, old_delay, old_exit, old_raise, old_abort, old_call, old_accept, old_wait, old_conditional, old_timed, old_put, old_put_line, old_new_line, old_get, old_if, old_case, old_block, old_loop, OldStmts, old_no_stmt, old_stmt, OldMaybe, old_absent, old_present, OldArms, old_no_arm, old_arm, OldCaseArms, old_no_case_arm, old_case_arm, OldHandlers, old_no_handler, old_handler}
 use Rattle.task_laws.specs.translation.Images.{ImageMaybe, image_absent, image_present, ImageArms, image_no_arm, image_arm, ImageCaseArms, image_no_case_arm, image_case_arm, ImageHandlers, image_no_handler, image_handler, image_null, image_assign, image_delay, image_exit, image_raise, image_no_abort, image_put, image_put_line, image_new_line, image_get, image_if, image_case, image_block, image_loop, ImageList, image_list, IsLocal, local_null, local_assign, local_delay, local_exit, local_raise, local_no_abort, local_put, local_put_line, local_new_line, local_get, local_if, local_case, local_block, local_loop, IsEmpty, nothing_there, IsSomething, something_there, AreImages}
-use Rattle.normal_runs.proofs.floors.Rows.{row-behind, row-before}
+use Rattle.normal_laws.proofs.runs.floors.Rows.{row-behind, row-before}
 use Rattle.replay_model.specs.ReplayStmts.{replay_rewriter}
 use Rattle.replay_structure.proofs.asked.Kept.{still_parts, still_stmts, still_arms, still_case_arms}
 use Rattle.replay_runs.specs.translation.Rows.{Replayed, replayed_none, replayed_then, replayed_rows}

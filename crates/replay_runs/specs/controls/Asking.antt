@@ -15,8 +15,8 @@ use Rattle.task_model.specs.Tasks.{Task, gone_to}
 use Rattle.task_model.specs.Rendezvous.{resumed, pending_of, finals_of}
 use Rattle.task_laws.specs.translation.Controls.{task_in}
 use Rattle.normal_model.specs.RewrittenUnit.{RewrittenUnit}
-use Rattle.normal_runs.specs.floors.Preludes.{IsCell}
-use Rattle.normalisable.specs.Laws.{IsLegalOriginal}
+use Rattle.normal_laws.specs.runs.floors.Preludes.{IsCell}
+use Rattle.normal_laws.specs.existence.Laws.{IsLegalOriginal}
 use Rattle.run_laws.specs.replaying.Copies.{Spots}
 use Rattle.replay_model.specs.Names.{kind_text, argument_text, index_text, added_id}
 use Rattle.replay_model.specs.Asking.{ask, done, stop}
@@ -25,7 +25,7 @@ use Rattle.replay_structure.specs.spots.Places.{text_spots}
 use Rattle.replay_runs.specs.starts.Laws.{form_in}
 use Rattle.replay_runs.specs.starts.Formals.{text_setting}
 use Rattle.replay_runs.specs.translation.Floors.{HasPermit}
-use Rattle.replay_runs.specs.controls.Laws.{Offers}
+use Rattle.table_law.specs.States.{Offers}
 
 -- the unit of a task of the normal form, as it is rewritten
 abbrev pub unit_of_task : PProgram → ℕ → RewrittenUnit

@@ -1,11 +1,9 @@
 -- What the law of replaying asks of the controller of a replay text (this project's rule).
-use Rattle.std.specs.Prelude.{◌≡◌, ℕ, ℤ, pos, suc, ◌<◌, ◌≤◌, true, List, [], ◌∷◌, map, length, None, slice_index_or}
-use Rattle.std.specs.List.{AllByRecursion}
+use Rattle.std.specs.Prelude.{◌≡◌, ℕ, ℤ, pos, Bool, List, [], ◌∷◌, ◌++◌, map, length, None, slice_index_or}
 use Rattle.event_machine.specs.declared.Event.{Event}
 use Rattle.event_machine.specs.Offers.{Finishes}
 use Rattle.event_machine.specs.progress.Known.{known_at_start}
 use Rattle.ada_tree.specs.PlainProgram.{PProgram}
-use Rattle.ada_static_rules.specs.StaticValue.{is_integer_value}
 use Rattle.ada_value.specs.declared.values.Value.{Value}
 use Rattle.ada_value.specs.declared.values.Value.TheVariants.{Number}
 use Rattle.syn_event.specs.Numbering.{owner_of}
@@ -13,57 +11,57 @@ use Rattle.task_model.specs.Frames.{callers_in}
 use Rattle.task_model.specs.Tasks.{Task}
 use Rattle.task_model.specs.Rendezvous.{accepted, finished, call_failed, pending_of, finals_of}
 use Rattle.task_model.specs.Starting.{started}
-use Rattle.normal_runs.specs.forms.Normalisable.{numbers_of}
-use Rattle.normalisable.specs.Laws.{IsLegalOriginal}
+use Rattle.normal_laws.specs.runs.forms.Normalisable.{numbers_of}
+use Rattle.normal_laws.specs.existence.Laws.{IsLegalOriginal}
+use Rattle.control_script.specs.declared.Op.{Op}
 use Rattle.run_laws.specs.replaying.Permits as law
 use Rattle.run_laws.specs.replaying.Scripts as scripts
 use Rattle.run_laws.specs.replaying.Copies.{Spots, ops_offer, op_callers}
 use Rattle.run_laws.specs.telling.ByEvents.{by_events}
-use Rattle.replay_runs.specs.script.Spelling.{kind, arg, index, spelled}
-use Rattle.replay_model.specs.ReplayTree.{last_task}
+use Rattle.replay_model.specs.tables.Columns.{acts, holds}
+use Rattle.table_law.specs.Controllers.{CanMakeAll}
+use Rattle.table_law.specs.States as tables
+use Rattle.table_law.specs.States.{before, LeadsTo, Offers}
 use Rattle.replay_structure.specs.spots.Places.{text_spots}
 use Rattle.replay_is_legal.specs.known.Laws.{AreKnown}
+use Rattle.replay_runs.specs.script.Spelling.{kind, arg, index, spelled}
 use Rattle.replay_runs.specs.starts.Laws.{form_in}
 use Rattle.replay_runs.specs.starts.Formals.{text_setting}
-use Rattle.replay_runs.specs.controls.Laws.{control_number, controller, hearing, granted, joining, LeadsTo, Offers}
+use Rattle.replay_runs.specs.controls.Laws.{control_number, controller}
 
 -- ---- operations
-
--- The controller can make the operation: its task is one of the program's, and beside main where it is waited for, and the numbers of its permit are
--- values of INTEGER.
-abbrev pub CanBeMade : PProgram → law.Op → Type 0
-CanBeMade p (law.Go task permit) = (task ≤ last_task (form_in p).numbers) × (arg permit ≤ 2147483647) × (is_integer_value (index permit) ≡ true)
-CanBeMade p (law.Done task) = task ≤ last_task (form_in p).numbers
-CanBeMade p (law.Join task) = (k : ℕ) × (task ≡ suc k) × (k < last_task (form_in p).numbers)
-CanBeMade p law.Hold = Unit {0}
 
 -- the law's script of a sequence
 abbrev pub law_script : PProgram → List Event → List law.Op
 law_script p events = scripts.script (by_events (owner_of (numbers_of p)) (length (numbers_of p).tasks)) (owner_of (numbers_of p)) (known_at_start (length (numbers_of p).tasks)) events
 
+-- Of operations of the law: those that the controller makes, and whether it waits for ever behind them.
+abbrev pub made_of : List law.Op → List Op
+made_of ops = acts (map spelled ops)
+
+abbrev pub ends_held : List law.Op → Bool
+ends_held ops = holds (map spelled ops)
+
+-- the task of an operation
+abbrev pub task_of : law.Op → ℕ
+task_of (law.Go task permit) = task
+task_of (law.Done task) = task
+task_of (law.Join task) = task
+task_of law.Hold = 0
+
 -- ---- states
 
--- The controller with these operations left: before the first of them, and where that joins a task, before the call in its block.
-abbrev pub before : PProgram → List Event → List ℤ → List law.Op → Task
-before p events input (law.Join task ∷ ops) = joining p events task (map spelled ops) input
-before p events input ops = controller p events (map spelled ops) input
-
--- the task is the controller with these operations left, which can be made
+-- The task is the controller with these operations left, where some are made, and it can make them all.
 pub record IsBefore (p : PProgram) (events : List Event) (input : List ℤ) (ops : List law.Op) (t : Task) : Type 0 where
-  pub is : t ≡ before p events input ops
-  pub can : AllByRecursion (CanBeMade p) ops
+  pub made : List Op
+  pub is : t ≡ before (controller p events input) (ends_held ops) made (made_of ops)
+  pub can : CanMakeAll (controller p events input) (made ++ made_of ops)
 
--- the controller at the end of the accept body of an operation, with these operations left behind it
-abbrev pub within : PProgram → List Event → List ℤ → law.Op → List law.Op → Task → Type 0
-within p events input (law.Go task permit) ops t = t ≡ granted p events task (kind permit) (arg permit) (index permit) (map spelled ops) input
-within p events input (law.Done task) ops t = t ≡ hearing p events task (map spelled ops) input
-within p events input (law.Join task) ops t = ⊥
-within p events input law.Hold ops t = ⊥
-
--- the task is the controller there, and these operations can be made
+-- The task is the controller at the end of the accept body of an operation, with these left behind it, where some are made, and it can make them all.
 pub record IsWithin (p : PProgram) (events : List Event) (input : List ℤ) (op : law.Op) (ops : List law.Op) (t : Task) : Type 0 where
-  pub is : within p events input op ops t
-  pub can : AllByRecursion (CanBeMade p) (op ∷ ops)
+  pub made : List Op
+  pub is : tables.IsWithin (controller p events input) (ends_held ops) made (spelled op) (made_of ops) (task_of op) t
+  pub can : CanMakeAll (controller p events input) (made ++ spelled op ∷ made_of ops)
 
 -- After finitely many local steps that write nothing the task is so.
 abbrev pub LeadsInto : (Task → Type 0) → Task → Type 0
@@ -98,7 +96,7 @@ pub record ImitatesController (far : Spots) (p : PProgram) (events : List Event)
 abbrev pub LegalImitatesController : Type 0
 LegalImitatesController = (far : Spots) (p : PProgram) (events : List Event) (input : List ℤ) → IsLegalOriginal p → ImitatesController far p events input
 
--- Where each number of the events is one that the program has, the controller starts with the law's script left.
+-- Where the events are known, the controller starts with the law's script left.
 abbrev pub LegalStartsWithScript : Type 0
 LegalStartsWithScript =
     (p : PProgram) (events : List Event) (inputs : List (List ℤ)) → IsLegalOriginal p → AreKnown p events →

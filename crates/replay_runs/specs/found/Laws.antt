@@ -6,9 +6,9 @@ use Rattle.ada_tree.specs.PlainProgram.{PProgram}
 use Rattle.syn_event.specs.declared.numbering.EntryInfo.{EntryInfo}
 use Rattle.syn_event.specs.Numbering.{entry_named}
 use Rattle.task_model.specs.Setting.{Setting}
-use Rattle.normal_runs.specs.forms.Choosing.{choosing}
-use Rattle.normal_runs.specs.forms.Normalisable.{made_for}
-use Rattle.normalisable.specs.Laws.{IsLegalOriginal}
+use Rattle.normal_laws.specs.runs.forms.Choosing.{choosing}
+use Rattle.normal_laws.specs.runs.forms.Normalisable.{made_for}
+use Rattle.normal_laws.specs.existence.Laws.{IsLegalOriginal}
 use Rattle.run_laws.specs.replaying.Copies.{Spots}
 use Rattle.replay_model.specs.Names.{never_text, join_text, added_id}
 use Rattle.replay_model.specs.ReplayTree.{last_task}

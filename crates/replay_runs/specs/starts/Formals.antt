@@ -15,8 +15,8 @@ use Rattle.run_laws.specs.replaying.Copies.{Spots}
 use Rattle.replay_model.specs.Names.{kind_text, argument_text, index_text, added_id}
 use Rattle.replay_model.specs.ReplayTree.{last_task}
 use Rattle.replay_model.specs.ReplayNumbers.{numbers_replayed}
-use Rattle.normal_structure.specs.types.Laws.{IsOrdered, AreOwn}
-use Rattle.normal_structure.specs.numbers.Laws.{NoneIsDed}
+use Rattle.normal_laws.specs.structure.types.Laws.{IsOrdered, AreOwn}
+use Rattle.normal_laws.specs.structure.numbers.Laws.{NoneIsDed}
 use Rattle.replay_structure.specs.spots.Places.{text_spots}
 use Rattle.replay_runs.specs.starts.Laws.{form_in, text_in}
 

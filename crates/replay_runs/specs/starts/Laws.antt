@@ -25,9 +25,9 @@ use Rattle.replay_model.specs.Names.{kind_text, argument_text, index_text, added
 use Rattle.replay_model.specs.ReplayTree.{permit_declared, is_added_object, behind_own, is_task, is_body, last_task, normal_setting, replay_tree}
 use Rattle.replay_model.specs.ReplayNumbers.{numbers_replayed}
 use Rattle.legal_programs.specs.rewritten_values.Values.{old_names}
-use Rattle.normal_structure.specs.types.Own.{own_name}
-use Rattle.normal_structure.specs.types.Laws.{IsOrdered, setting_of, AreOwn}
-use Rattle.normal_structure.specs.numbers.Laws.{NoneIsDed}
+use Rattle.normal_laws.specs.structure.types.Own.{own_name}
+use Rattle.normal_laws.specs.structure.types.Laws.{IsOrdered, setting_of, AreOwn}
+use Rattle.normal_laws.specs.structure.numbers.Laws.{NoneIsDed}
 use Rattle.replay_structure.specs.bodies.Laws.{HasBodies}
 
 -- ---- tables
@@ -146,13 +146,11 @@ start_before p t = start_of (types_in (form_in p).program) (form_in p).program (
 abbrev pub start_after : PProgram → List Event → ℕ → Variables
 start_after p events t = start_of (types_in (text_in p events)) (text_in p events) (numbers_replayed (form_in p)) t
 
--- How the tasks of a replay text start: main and each task of the normal form with the permit's variables more, and the controller and the idle task
--- without objects.
+-- How the tasks of a replay text start: main and each task of the normal form with the permit's variables more, and the idle task without objects.
 pub record TextStarts (p : PProgram) (events : List Event) : Type 0 where
   pub main : HavePermit (form_in p).program (types_in (form_in p).program) true (plain_part (decl_list (form_in p).program.decls)) (start_before p 0) (start_after p events 0)
   pub tasks : (t : ℕ) (info : TaskInfo) → task_at (form_in p).numbers (suc t) ≡ Some info →
       HavePermit (form_in p).program (types_in (form_in p).program) false (decl_list (unit_of (form_in p).program (form_in p).numbers (suc t)).decls) (start_before p (suc t)) (start_after p events (suc t))
-  pub control : start_after p events (suc (last_task (form_in p).numbers)) ≡ []
   pub idle : start_after p events (suc (suc (last_task (form_in p).numbers))) ≡ []
 
 -- So it is of a program that meets the static rules, declares own names, has a body for each task and no array of tasks named DED, where the

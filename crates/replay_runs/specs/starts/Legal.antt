@@ -10,9 +10,9 @@ use Rattle.syn_event.specs.Numbering.{task_at}
 use Rattle.syn_event.specs.AllNumbers.{all_numbers}
 use Rattle.control_script.specs.declared.Op.{Op}
 use Rattle.run_laws.specs.replaying.Copies.{Spots}
-use Rattle.normal_structure.specs.types.Laws.{IsOrdered, AreOwn, setting_of}
-use Rattle.normal_structure.specs.numbers.Laws.{NoneIsDed}
-use Rattle.normalisable.specs.Laws.{IsLegalOriginal}
+use Rattle.normal_laws.specs.structure.types.Laws.{IsOrdered, AreOwn, setting_of}
+use Rattle.normal_laws.specs.structure.numbers.Laws.{NoneIsDed}
+use Rattle.normal_laws.specs.existence.Laws.{IsLegalOriginal}
 use Rattle.replay_structure.specs.bodies.Laws.{HasBodies, RunsUnits}
 use Rattle.replay_runs.specs.starts.Laws.{IsNoPermit, FindsPermit, AddsOwnMarks, form_in, start_before, start_after, TextStarts}
 use Rattle.replay_runs.specs.starts.Formals.{HaveFormals}

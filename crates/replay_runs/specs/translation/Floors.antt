@@ -15,8 +15,8 @@ use Rattle.task_laws.specs.translation.Images.{ImageHandlers}
 use Rattle.task_laws.specs.translation.Controls.{frame, Under}
 use Rattle.normal_model.specs.RewrittenUnit.{RewrittenUnit}
 use Rattle.normal_model.specs.Making.{one}
-use Rattle.normal_runs.specs.floors.Preludes.{IsCell}
-use Rattle.normal_runs.specs.floors.NormalFloors.{Extends, AreOpen, no_floor}
+use Rattle.normal_laws.specs.runs.floors.Preludes.{IsCell}
+use Rattle.normal_laws.specs.runs.floors.NormalFloors.{Extends, AreOpen, no_floor}
 use Rattle.replay_model.specs.Names.{kind_text, argument_text, index_text, added_id}
 use Rattle.replay_model.specs.Asking.{ask_only, done}
 use Rattle.replay_model.specs.Serving.{finish, raise_again, whatever}

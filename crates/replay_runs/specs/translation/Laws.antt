@@ -13,8 +13,8 @@ use Rattle.task_laws.specs.translation.OldTexts.{only_names, OldBody}
 use Rattle.task_laws.specs.translation.Controls.{task_in, Alike, IsAtLocal, ExitsLoop, AreInside, AreAround, StepAlike}
 use Rattle.task_laws.specs.translation.Floors.{IsTranslation, AreClosed}
 use Rattle.normal_model.specs.RewrittenUnit.{RewrittenUnit}
-use Rattle.normal_runs.specs.floors.NormalFloors.{Extends}
-use Rattle.normal_runs.specs.floors.Preludes.{Reaches}
+use Rattle.normal_laws.specs.runs.floors.NormalFloors.{Extends}
+use Rattle.normal_laws.specs.runs.floors.Preludes.{Reaches}
 use Rattle.normal_model.specs.Making.{one}
 use Rattle.replay_model.specs.Names.{kind_text, argument_text, index_text, added_id}
 use Rattle.replay_model.specs.ReplayStmts.{replay_body}

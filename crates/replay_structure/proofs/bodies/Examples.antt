@@ -5,8 +5,8 @@ use Rattle.ada_static_rules.specs.Refusals.{types_in}
 use Rattle.syn_event.specs.Numbering.{Numbering}
 use Rattle.syn_event.specs.AllNumbers.{all_numbers}
 use Rattle.control_script.specs.declared.Op.{Op}
-use Rattle.normal_structure.proofs.types.Examples.{original, ordered, own}
-use Rattle.normal_structure.proofs.numbers.Examples.{none_is_ded}
+use Rattle.normal_laws.proofs.structure.types.Examples.{original, ordered, own}
+use Rattle.normal_laws.proofs.structure.numbers.Examples.{none_is_ded}
 use Rattle.replay_structure.specs.bodies.Laws.{HasBodies, RunsUnits, IsMet}
 use Rattle.replay_structure.proofs.bodies.Programs.{programs_run}
 

@@ -24,12 +24,12 @@ use Rattle.normal_model.specs.NormalStmts.{normal_body, unit_variables}
 use Rattle.replay_model.specs.Names.{control_text, idle_text, replay_names, added_id}
 use Rattle.replay_model.specs.ReplayTree.{normal_setting}
 use Rattle.legal_programs.proofs.rewritten_types.Lookups.{place-all}
-use Rattle.normal_structure.specs.types.Laws.{IsOrdered, setting_of, AreOwn}
-use Rattle.normal_structure.specs.numbers.Laws.{NoneIsDed}
-use Rattle.normal_structure.proofs.numbers.Named.{reserved-added}
-use Rattle.normal_structure.proofs.numbers.Listed.{IsPlain, IsOneTask, first-plain, firsts, vars, tasks, bodies, vars-plain, tasks-all, normal-list}
+use Rattle.normal_laws.specs.structure.types.Laws.{IsOrdered, setting_of, AreOwn}
+use Rattle.normal_laws.specs.structure.numbers.Laws.{NoneIsDed}
+use Rattle.normal_laws.proofs.structure.numbers.Named.{reserved-added}
+use Rattle.normal_laws.proofs.structure.numbers.Listed.{IsPlain, IsOneTask, first-plain, firsts, vars, tasks, bodies, vars-plain, tasks-all, normal-list}
 use Rattle.replay_structure.proofs.texts.Rooted.{replay-has}
-use Rattle.normal_structure.proofs.numbers.Tasked.{under, normal-tasks-of}
+use Rattle.normal_laws.proofs.structure.numbers.Tasked.{under, normal-tasks-of}
 use Rattle.replay_structure.proofs.texts.Kept.{all-not-added}
 use Rattle.replay_structure.specs.bodies.Laws.{has_body, HasBodies, ProgramsRun}
 use Rattle.replay_structure.proofs.bodies.Bodies.{units_are_replayed, added_tasks_run}

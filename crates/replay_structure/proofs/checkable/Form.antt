@@ -23,12 +23,12 @@ use Rattle.normal_model.specs.RewrittenUnit.{RewrittenUnit}
 use Rattle.normal_model.specs.NormalTree.{unit_for, bodies_of, main_unit, running, normal_tree}
 use Rattle.normal_model.specs.NormalStmts.{normal_body, unit_variables}
 use Rattle.normal_model.proofs.VariablesLemmas.{begins-refl}
-use Rattle.normal_structure.specs.asked.Pieces.{Pieces}
-use Rattle.normal_structure.proofs.asked.Walk.{body-keeps}
-use Rattle.normal_structure.proofs.placed.Depth.{depth-of}
-use Rattle.normal_structure.specs.types.Laws.{setting_of}
-use Rattle.normal_structure.proofs.types.Variables.{all-mapped}
-use Rattle.normal_structure.proofs.numbers.Listed.{IsPlain, IsOneTask, firsts, vars, tasks, bodies, first-plain, vars-plain, tasks-all, normal-list}
+use Rattle.normal_laws.specs.structure.asked.Pieces.{Pieces}
+use Rattle.normal_laws.proofs.structure.asked.Walk.{body-keeps}
+use Rattle.normal_laws.proofs.structure.placed.Depth.{depth-of}
+use Rattle.normal_laws.specs.structure.types.Laws.{setting_of}
+use Rattle.normal_laws.proofs.structure.types.Variables.{all-mapped}
+use Rattle.normal_laws.proofs.structure.numbers.Listed.{IsPlain, IsOneTask, firsts, vars, tasks, bodies, first-plain, vars-plain, tasks-all, normal-list}
 use Rattle.replay_structure.specs.checked.Around.{form_asks}
 use Rattle.replay_structure.specs.checked.Checkable.{HasForm}
 use Rattle.replay_structure.specs.checkable.inner.Depth.{depth_asks}

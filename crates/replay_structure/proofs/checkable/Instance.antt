@@ -1,19 +1,18 @@
 -- A program is prepared.
-use Rattle.std.proofs.Common.{◌≡◌, ℕ, zero, suc, ◌==◌, false, [], ◌∷◌, All, refl, arith}
+use Rattle.std.proofs.Common.{[], ◌∷◌, All, refl}
 use Rattle.std.specs.Fmt.{digits}
 use Rattle.std.proofs.lemmas.List.Elements.{All-from_recursion}
 use Rattle.common_lemmas.proofs.Numbers.{le_is}
 use Rattle.ada_tree.specs.Every.{Rules, EveryWord, EveryFormal, EveryEntry, EveryPriority}
 use Rattle.syn_event.specs.declared.numbering.Mode.TheVariants.{Any}
 use Rattle.syn_event.specs.CheckRefusals.{MeetsCheckRules}
-use Rattle.normal_model.specs.Names.{task_name_at}
-use Rattle.normal_structure.specs.placed.Example.{word, formal, entry, passing}
+use Rattle.normal_laws.specs.structure.placed.Example.{word, formal, entry, passing}
 use Rattle.legal_programs.specs.rewritten_values.Values.{old_names}
-use Rattle.normal_structure.specs.types.Own.{own_name}
-use Rattle.normal_structure.specs.types.Laws.{AreOwn}
+use Rattle.normal_laws.specs.structure.types.Own.{own_name}
+use Rattle.normal_laws.specs.structure.types.Laws.{AreOwn}
 use Rattle.replay_structure.specs.checked.Example.{example_events}
 use Rattle.replay_structure.proofs.checked.Instance.{declared, named}
-use Rattle.replay_structure.specs.checkable.Prepared.{form_for, IsBesideMain, IsPrepared}
+use Rattle.replay_structure.specs.checkable.Prepared.{form_for, IsPrepared}
 
 abbrev r : Rules
 r = old_names (own_name passing)
@@ -29,12 +28,6 @@ own = (
   (tt, (refl, entries-own, All-from_recursion (EveryPriority r) [] tt, tt)),
   ((tt, refl, tt, tt, ((tt, (tt, (refl, tt, formals-own), tt), tt), tt, tt)), tt),
 )
-
-apart : (t : ℕ) → IsBesideMain passing t → ((task_name_at (form_for passing) t).0 == passing.name.name.0) ≡ false
-unfolding digits
-apart zero h = let never : ⊥ = omega (arith, h.low) in absurd never
-apart (suc zero) h = refl
-apart (suc (suc t)) h = let never : ⊥ = omega (arith, h.high) in absurd never
 
 pub example_meets : MeetsCheckRules (form_for passing).program Any
 unfolding digits
@@ -53,6 +46,7 @@ example_is_prepared = record {
   untrue = (refl, (tt, (tt, tt)));
   few_tasks = le_is _ 200 refl;
   few_entries = le_is _ 1000 refl;
-  apart = apart;
-  ends = (tt, (tt, (record { low = le_is 1 1 refl; high = le_is _ _ refl }, (tt, tt))));
+  apart = (refl, tt);
+  few_events = le_is _ 200000 refl;
+  few_numbered = le_is _ 201 refl;
 }

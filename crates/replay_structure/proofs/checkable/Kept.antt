@@ -11,9 +11,9 @@ use Rattle.syn_event.specs.declared.numbering.Mode.TheVariants.{Original}
 use Rattle.syn_event.specs.CheckScope.{CheckScope, CheckSite}
 use Rattle.syn_event.specs.CheckSites as check
 use Rattle.legal_programs.specs.sites.Met.{IsCheckMet}
-use Rattle.normal_structure.specs.checked.Around.{own_rules}
-use Rattle.normal_structure.specs.asked.Pieces.{IsPlain}
-use Rattle.normal_structure.proofs.placed.Depth.{depth-of}
+use Rattle.normal_laws.specs.structure.checked.Around.{own_rules}
+use Rattle.normal_laws.specs.structure.asked.Pieces.{IsPlain}
+use Rattle.normal_laws.proofs.structure.placed.Depth.{depth-of}
 
 -- each name is such a one, and no part stands deeper than 100
 abbrev pub rules_of : (ℕ → Bool) → Rules

@@ -29,9 +29,9 @@ use Rattle.normal_model.specs.RewrittenUnit.{RewrittenUnit}
 use Rattle.normal_model.specs.NormalTree.{decls_front, mark_of, unless_left, first_decls, tasks_beside, task_under, declared_under, unit_for, running, bodies_of}
 use Rattle.normal_model.specs.NormalStmts.{normal_body, unit_variables}
 use Rattle.normal_model.proofs.VariablesLemmas.{begins-refl}
-use Rattle.normal_structure.specs.asked.Pieces.{IsAmong, first_among, later_among}
-use Rattle.normal_structure.proofs.asked.Walk.{body-keeps}
-use Rattle.normal_structure.specs.checked.Around.{own_rules, callee_asks}
+use Rattle.normal_laws.specs.structure.asked.Pieces.{IsAmong, first_among, later_among}
+use Rattle.normal_laws.proofs.structure.asked.Walk.{body-keeps}
+use Rattle.normal_laws.specs.structure.checked.Around.{own_rules, callee_asks}
 use Rattle.replay_structure.proofs.checked.Along.{OnTask}
 use Rattle.replay_structure.specs.checkable.inner.Depth.{depth_asks}
 use Rattle.replay_structure.proofs.checkable.Rooted.{rooted_asked}

@@ -15,13 +15,13 @@ use Rattle.task_model.specs.Setting.{Setting}
 use Rattle.normal_model.specs.Names.{with_members, variable_text, normal_names, variable_name}
 use Rattle.normal_model.specs.NormalTree.{variables_needed, normal_tree}
 use Rattle.normal_model.proofs.VariablesLemmas.{Begins}
-use Rattle.normal_structure.specs.types.Own.{own_name}
-use Rattle.normal_structure.specs.types.Laws.{setting_of}
-use Rattle.normal_structure.proofs.types.Names.{variable-there}
-use Rattle.normal_structure.proofs.numbers.Named.{text-longer, own-within, own-not-added, begins-within}
-use Rattle.normal_structure.proofs.numbers.TaskNames.{normal-begins}
+use Rattle.normal_laws.specs.structure.types.Own.{own_name}
+use Rattle.normal_laws.specs.structure.types.Laws.{setting_of}
+use Rattle.normal_laws.proofs.structure.types.Names.{variable-there}
+use Rattle.normal_laws.proofs.structure.numbers.Named.{text-longer, own-within, own-not-added, begins-within}
+use Rattle.normal_laws.proofs.structure.numbers.TaskNames.{normal-begins}
 use Rattle.replay_structure.specs.checked.Around.{meant_texts, kept_name}
-use Rattle.normal_structure.proofs.placed.Names.{variables-more}
+use Rattle.normal_laws.proofs.structure.placed.Names.{variables-more}
 
 -- ---- texts
 

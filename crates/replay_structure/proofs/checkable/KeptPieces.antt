@@ -35,12 +35,12 @@ use Rattle.normal_model.specs.RewrittenUnit.{RewrittenUnit}
 use Rattle.normal_model.specs.Waits.{not_held}
 use Rattle.normal_model.specs.NormalTree.{tasks_beside}
 use Rattle.normal_model.specs.Variables.{variable_declared}
-use Rattle.normal_structure.specs.asked.Pieces.{IsVariable, AreVariables, IsGuard, member_choice, IsAmong, IsPair, first_pair, later_pair, Pieces}
-use Rattle.normal_structure.proofs.asked.CallVariables.{family-there, actuals-there}
-use Rattle.normal_structure.proofs.placed.Calls.{moves}
-use Rattle.normal_structure.proofs.placed.Depth.{depth-of, few-alternatives}
-use Rattle.normal_structure.specs.checked.Around.{own_rules, IsBeside, callee_asks, IsLiteralOf, is_false, is_true, is_enumerated}
-use Rattle.normal_structure.proofs.checked.Checked.{kind-among}
+use Rattle.normal_laws.specs.structure.asked.Pieces.{IsVariable, AreVariables, IsGuard, member_choice, IsAmong, IsPair, first_pair, later_pair, Pieces}
+use Rattle.normal_laws.proofs.structure.asked.CallVariables.{family-there, actuals-there}
+use Rattle.normal_laws.proofs.structure.placed.Calls.{moves}
+use Rattle.normal_laws.proofs.structure.placed.Depth.{depth-of, few-alternatives}
+use Rattle.normal_laws.specs.structure.checked.Around.{own_rules, IsBeside, callee_asks, IsLiteralOf, is_false, is_true, is_enumerated}
+use Rattle.normal_laws.proofs.structure.checked.Checked.{kind-among}
 use Rattle.replay_structure.specs.checkable.inner.Depth.{depth_asks}
 use Rattle.replay_structure.proofs.checkable.Kept.{rules_of, words-kept, formals-kept, expr-kept, choices-kept, word-kept, scheme-kept, head-kept, plain-kept}
 

@@ -23,12 +23,12 @@ use Rattle.normal_model.specs.NormalStmts.{unit_variables}
 use Rattle.normal_model.specs.NormalTree.{decls_front, first_decls, tasks_beside, task_under, declared_under, unit_for, running, bodies_of, main_unit, normal_tree}
 use Rattle.legal_programs.specs.rewritten_types.Agreement.{Agrees}
 use Rattle.legal_programs.specs.rewritten_values.Values.{old_names}
-use Rattle.normal_structure.specs.types.Own.{own_name}
-use Rattle.normal_structure.specs.types.Laws.{setting_of, AreOwn}
-use Rattle.normal_structure.proofs.types.Normal.{first-every}
-use Rattle.normal_structure.proofs.types.Variables.{all-mapped, unit-all}
-use Rattle.normal_structure.proofs.numbers.Extents.{extent-alike}
-use Rattle.normal_structure.proofs.numbers.Listed.{IsPlain, IsOneTask, firsts, vars, tasks, bodies, first-plain, tasks-all, normal-list}
+use Rattle.normal_laws.specs.structure.types.Own.{own_name}
+use Rattle.normal_laws.specs.structure.types.Laws.{setting_of, AreOwn}
+use Rattle.normal_laws.proofs.structure.types.Normal.{first-every}
+use Rattle.normal_laws.proofs.structure.types.Variables.{all-mapped, unit-all}
+use Rattle.normal_laws.proofs.structure.numbers.Extents.{extent-alike}
+use Rattle.normal_laws.proofs.structure.numbers.Listed.{IsPlain, IsOneTask, firsts, vars, tasks, bodies, first-plain, tasks-all, normal-list}
 use Rattle.replay_structure.specs.checked.Checkable.{HasSameSize, IsSameObject, IsSameEntry, IsSameDecl}
 use Rattle.replay_structure.proofs.checked.Along.{OnTask}
 use Rattle.replay_structure.proofs.checkable.KeptDecls.{flat-among}

@@ -7,7 +7,7 @@ use Rattle.ada_tree.specs.PlainProgram.{PProgram}
 use Rattle.syn_event.specs.Numbering.{Numbering}
 use Rattle.syn_event.specs.DeclaredTasks.{decl_list}
 use Rattle.normal_model.specs.NormalTree.{normal_tree}
-use Rattle.normal_structure.proofs.numbers.Listed.{firsts, vars, tasks, bodies, normal-list}
+use Rattle.normal_laws.proofs.structure.numbers.Listed.{firsts, vars, tasks, bodies, normal-list}
 use Rattle.replay_model.specs.ReplayTree.{is_task, is_body}
 use Rattle.replay_structure.proofs.texts.Listed.{normal-plain, normal-tasks, normal-bodies}
 use Rattle.replay_structure.specs.checked.Checkable.{is_plain}

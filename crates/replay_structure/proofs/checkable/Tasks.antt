@@ -1,13 +1,9 @@
--- The entries of the tasks of a normal form have short names, and the controller's script waits for the end of tasks beside main alone.
+-- The entries of the tasks of a normal form have short names.
 use Rattle.std.proofs.Common.{◌≡◌, ℕ, ◌≤◌, ◌==◌, Bool, true, false, if◌then◌else◌, List, [], ◌∷◌, ◌++◌, length, map, flat_map, refl, sym, ap, subst, arith}
 use Rattle.std.specs.List.{AllByRecursion}
 use Rattle.std.proofs.lemmas.List.{length-map}
 use Rattle.std.proofs.lemmas.List.Elements.{recursion_from_All}
 use Rattle.common_lemmas.proofs.Lists.{all_front, all_back, all_joined, all_weaker, all_unflat}
-use Rattle.common_lemmas.proofs.Numbers.{equal_is}
-use Rattle.event_machine.specs.declared.Event.{Event}
-use Rattle.event_machine.specs.declared.Event.TheVariants.{R, E, S, D, C, T, F, X, B, Z}
-use Rattle.event_machine.specs.progress.Known.{Known, admits, advanced, known_at_start}
 use Rattle.ada_tree.specs.TypeTable.{TypeTable}
 use Rattle.ada_tree.specs.PlainDecl.{PEntry, PTask, PDecl, DNumber, DObject, DEnumeration, DArray, DSubtype, DException, DIntIo, DPragma, DTask, DTaskBody, PDecls, no_decl, decl_then}
 use Rattle.ada_tree.specs.PlainProgram.{PProgram}
@@ -18,23 +14,19 @@ use Rattle.syn_event.specs.CheckSites as check
 use Rattle.syn_event.specs.Numbering.{Numbering}
 use Rattle.syn_event.specs.DeclaredTasks.{text_of, decl_list, tasks_in, tasks_of}
 use Rattle.legal_programs.specs.sites.Met.{IsCheckMet}
-use Rattle.control_script.specs.declared.Op.TheVariants.{Done, Join, Hold}
-use Rattle.control_script.specs.Script.{open_tasks, to_close, after_abort, operations, held, script_from, script}
 use Rattle.task_model.specs.Setting.{Setting}
 use Rattle.legal_programs.specs.rewritten_values.Values.{old_names}
-use Rattle.normal_model.specs.Names.{task_name_at}
 use Rattle.normal_model.specs.NormalTree.{normal_tree}
 use Rattle.normal_model.specs.NormalNumbers.{normal_numbers}
-use Rattle.normal_structure.specs.types.Own.{own_name}
-use Rattle.normal_structure.specs.types.Laws.{setting_of, AreOwn}
-use Rattle.normal_structure.proofs.numbers.Named.{text-longer, own-within}
-use Rattle.normal_structure.proofs.numbers.TaskNames.{normal-begins}
-use Rattle.normal_structure.proofs.numbers.Listed.{IsPlain, IsOneBody, firsts, vars, tasks, bodies, first-plain, vars-plain, bodies-all, normal-list}
-use Rattle.normal_structure.proofs.placed.Tasks.{declared-length}
+use Rattle.normal_laws.specs.structure.types.Own.{own_name}
+use Rattle.normal_laws.specs.structure.types.Laws.{setting_of, AreOwn}
+use Rattle.normal_laws.proofs.structure.numbers.Named.{text-longer, own-within}
+use Rattle.normal_laws.proofs.structure.numbers.TaskNames.{normal-begins}
+use Rattle.normal_laws.proofs.structure.numbers.Listed.{IsPlain, IsOneBody, firsts, vars, tasks, bodies, first-plain, vars-plain, bodies-all, normal-list}
+use Rattle.normal_laws.proofs.structure.placed.Tasks.{declared-length}
 use Rattle.replay_model.specs.ReplayTree.{last_task}
-use Rattle.replay_structure.specs.checked.Checkable.{IsShortEntry, IsJoinable}
+use Rattle.replay_structure.specs.checked.Checkable.{IsShortEntry}
 use Rattle.replay_structure.proofs.checked.Along.{OnTask}
-use Rattle.replay_structure.specs.checkable.Prepared.{EndsBeside}
 use Rattle.replay_structure.proofs.checkable.Ranges.{all-tasks-under}
 
 -- ---- tasks of a normal form
@@ -129,48 +121,3 @@ module _ (p : PProgram) (types : TypeTable) (numbers : Numbering) where
   -- the last task's number by the numbers of the normal form
   pub last-number : last_task (normal_numbers n numbers) ≡ length (tasks_of n)
   last-number = length-map (tasks_of n) _
-
--- ---- the script
-
-module _ (g : Setting) (Beside : ℕ → Type 0) (other : (t : ℕ) → Beside t → ((task_name_at g t).0 == g.program.name.name.0) ≡ false) where
-  closes : (ts : List ℕ) → AllByRecursion (IsJoinable g) (map to_close ts)
-  closes [] = tt
-  closes (t ∷ ts) = (tt, closes ts)
-
-  abort-joined : (t x : ℕ) → Beside x → IsJoinable g (after_abort t x)
-  abort-joined t x h = go (x == t) refl
-    where
-      go : (b : Bool) → (x == t) ≡ b → IsJoinable g (if b then Join t else Done t)
-      go true e = subst (λ k. ((task_name_at g k).0 == g.program.name.name.0) ≡ false) (equal_is x t e) (other x h)
-      go false e = tt
-
-  event-joined : (owner : ℕ → ℕ) (k : Known) (e : Event) → EndsBeside Beside e → AllByRecursion (IsJoinable g) (operations owner k e)
-  event-joined owner k (R c e i) h = (tt, (tt, (tt, tt)))
-  event-joined owner k (E a) h = (tt, (tt, tt))
-  event-joined owner k (S a) h = (tt, (tt, tt))
-  event-joined owner k (D a n) h = (tt, (tt, tt))
-  event-joined owner k (C c e i) h = (tt, (tt, tt))
-  event-joined owner k (T c e i) h = (tt, (tt, tt))
-  event-joined owner k (F c e i) h = (tt, (tt, tt))
-  event-joined owner k (X a) h = (tt, (other a h, tt))
-  event-joined owner k (B t x) h = (tt, (abort-joined t x h, tt))
-  event-joined owner k Z h = all_joined (IsJoinable g) (map to_close (open_tasks k)) (to_close 0 ∷ []) (closes (open_tasks k)) (tt, tt)
-
-  held-joined : (k : Known) → AllByRecursion (IsJoinable g) (held k)
-  held-joined k = go k.ended
-    where
-      go : (b : Bool) → AllByRecursion (IsJoinable g) (if b then [] else Hold ∷ [])
-      go true = tt
-      go false = (tt, tt)
-
-  events-joined : (owner : ℕ → ℕ) (es : List Event) (k : Known) → AllByRecursion (EndsBeside Beside) es → AllByRecursion (IsJoinable g) (script_from owner k es)
-  events-joined owner [] k h = held-joined k
-  events-joined owner (e ∷ es) k h = go (admits owner k e) (events-joined owner es (advanced owner k e) h.1)
-    where
-      go : (b : Bool) → AllByRecursion (IsJoinable g) (script_from owner (advanced owner k e) es) → AllByRecursion (IsJoinable g) (if b then operations owner k e ++ script_from owner (advanced owner k e) es else held k)
-      go true later = all_joined (IsJoinable g) (operations owner k e) (script_from owner (advanced owner k e) es) (event-joined owner k e h.0) later
-      go false later = held-joined k
-
-  -- The controller waits for the end of tasks beside main alone.
-  pub script-joined : (owner : ℕ → ℕ) (n : ℕ) (es : List Event) → AllByRecursion (EndsBeside Beside) es → AllByRecursion (IsJoinable g) (script owner n es)
-  script-joined owner n es h = events-joined owner es (known_at_start n) h

@@ -23,15 +23,15 @@ use Rattle.legal_programs.proofs.asked.Together.{both_asked}
 use Rattle.normal_model.specs.Ranges.{integer_subtype}
 use Rattle.normal_model.specs.RewrittenUnit.{RewrittenUnit}
 use Rattle.normal_model.specs.NormalTree.{unit_for}
-use Rattle.normal_structure.proofs.numbers.Listed.{IsPlain, IsOneTask, IsOneBody}
-use Rattle.normal_structure.proofs.checked.Places.{met-deep}
-use Rattle.normal_structure.proofs.checked.MainScopes.{IsFrameOf, frame-refl, frame-trans}
+use Rattle.normal_laws.proofs.structure.numbers.Listed.{IsPlain, IsOneTask, IsOneBody}
+use Rattle.normal_laws.proofs.structure.checked.Places.{met-deep}
+use Rattle.normal_laws.proofs.structure.checked.MainScopes.{IsFrameOf, frame-refl, frame-trans}
 use Rattle.replay_model.specs.Names.{kind_text, argument_text, index_text, replay_names}
 use Rattle.replay_model.specs.ReplayStmts.{replay_body}
 use Rattle.replay_model.specs.ReplayTree.{is_added_object, behind_own, permit_declared, replay_decl}
 use Rattle.replay_structure.proofs.asked.Walk.{replay-keeps}
 use Rattle.replay_structure.specs.checked.Around.{kept_names, form_asks, IsAsking}
-use Rattle.normal_structure.specs.numbers.Single.{IsSingle}
+use Rattle.normal_laws.specs.structure.numbers.Single.{IsSingle}
 use Rattle.replay_structure.specs.checked.Checkable.{IsOtherThanTruth, HasForm, IsSameObject, IsSameDecl, IsShortEntry}
 use Rattle.replay_structure.proofs.checked.Names.{IsDoubled}
 use Rattle.replay_structure.proofs.checked.Stays.{IsFormMet, IsTextMet, UsesStay}

@@ -19,7 +19,7 @@ use Rattle.legal_programs.specs.asked.Asked.{Asks, AskedAlts, AskedKind}
 use Rattle.legal_programs.specs.asked.Kinds.{check_asks, before_sites}
 use Rattle.normal_model.specs.RewrittenUnit.{RewrittenUnit}
 use Rattle.normal_model.specs.Calls.{entry_called, lists_called}
-use Rattle.normal_structure.proofs.checked.Places.{met-deep, met-alternative, met-callee, met-accept, met-wait, met-raise, met-use}
+use Rattle.normal_laws.proofs.structure.checked.Places.{met-deep, met-alternative, met-callee, met-accept, met-wait, met-raise, met-use}
 use Rattle.replay_model.specs.Names.{kind_text, argument_text, index_text, control_text, idle_text, never_text, replay_names, added_id, added_word}
 use Rattle.replay_model.specs.Asking.{permit_is_kind}
 use Rattle.replay_model.specs.Serving.{permits_start}

@@ -15,14 +15,14 @@ use Rattle.syn_event.specs.CheckSites.{with_meant, with_declared_object, with_ob
 use Rattle.syn_event.specs.Extents.{is_array_type}
 use Rattle.syn_event.specs.RuleAcceptPlace.{is_among}
 use Rattle.syn_event.specs.RuleSharedVariable.{shared_name, in_body_of}
-use Rattle.normal_structure.proofs.numbers.Listed.{IsPlain}
-use Rattle.normal_structure.proofs.checked.MainScopes.{IsFrameOf, decls-frame, ArePlain, IsNoType, decls-plain, name-free, frame-trans, decl-frame}
+use Rattle.normal_laws.proofs.structure.numbers.Listed.{IsPlain}
+use Rattle.normal_laws.proofs.structure.checked.MainScopes.{IsFrameOf, decls-frame, ArePlain, IsNoType, decls-plain, name-free, frame-trans, decl-frame}
 use Rattle.replay_model.specs.Names.{control_text, go_text, done_text, hold_text, idle_text, stop_text, rest_text, never_text, added_id, added_word}
 use Rattle.replay_model.specs.ReplayTree.{permit_declared}
 use Rattle.replay_model.specs.Controlling.{control_declared, idle_declared}
 use Rattle.replay_structure.proofs.texts.Listed.{more_task}
 use Rattle.replay_structure.specs.checked.Around.{kept_name, kept_names}
-use Rattle.normal_structure.specs.numbers.Single.{IsSingle}
+use Rattle.normal_laws.specs.structure.numbers.Single.{IsSingle}
 use Rattle.replay_structure.specs.checked.Checkable.{IsOtherThanTruth, IsSameDecl}
 use Rattle.replay_structure.proofs.checked.Names.{added-other}
 use Rattle.replay_structure.proofs.checked.Scopes.{with_name, meant-beside}

@@ -17,7 +17,7 @@ use Rattle.syn_event.specs.RuleAcceptPlace.{is_among, is_own_entry}
 use Rattle.syn_event.specs.RuleMainEntry.{main_entry}
 use Rattle.syn_event.specs.RuleSharedVariable.{shared_name, in_body_of, shared_variable}
 use Rattle.syn_event.specs.DeclaredTasks.{decl_list}
-use Rattle.normal_structure.proofs.checked.MainScopes.{IsFrameOf, meant-frame}
+use Rattle.normal_laws.proofs.structure.checked.MainScopes.{IsFrameOf, meant-frame}
 use Rattle.replay_model.specs.Names.{kind_text, argument_text, index_text, control_text, idle_text, never_text, added_id, added_word}
 use Rattle.replay_model.specs.ReplayTree.{is_added_object, behind_own, permit_declared}
 use Rattle.replay_structure.specs.checked.Around.{kept_name, IsAsking}

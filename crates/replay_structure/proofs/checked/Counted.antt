@@ -13,14 +13,14 @@ use Rattle.syn_event.specs.CheckSites.{site, numbered, tasks_sites, entries_of_p
 use Rattle.syn_event.specs.NamedTasks.{NamedTasks, named_tasks, with_type, single_task_name, task_names_in, task_names_of, task_count}
 use Rattle.syn_event.specs.DeclaredTasks.{tasks_in}
 use Rattle.legal_programs.specs.sites.Met.{IsCheckMet}
-use Rattle.normal_structure.proofs.checked.Places.{passed-not}
+use Rattle.normal_laws.proofs.structure.checked.Places.{passed-not}
 use Rattle.replay_model.specs.Names.{never_text, join_text}
 use Rattle.replay_model.specs.ReplayTree.{double_entry}
 use Rattle.replay_model.specs.Controlling.{added_entry}
 use Rattle.replay_structure.proofs.texts.Listed.{more_task}
-use Rattle.normal_structure.specs.numbers.Single.{IsSingle}
+use Rattle.normal_laws.specs.structure.numbers.Single.{IsSingle}
 use Rattle.replay_structure.specs.checked.Checkable.{entries_count}
-use Rattle.normal_structure.proofs.numbers.TasksNumbered.{no-parts}
+use Rattle.normal_laws.proofs.structure.numbers.TasksNumbered.{no-parts}
 
 -- ---- the names of tasks
 

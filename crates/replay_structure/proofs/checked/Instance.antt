@@ -8,7 +8,7 @@ use Rattle.ada_tree.specs.PlainExpr.{EName}
 use Rattle.ada_tree.specs.PlainProgram.{PProgram}
 use Rattle.ada_tree.specs.Every.{Rules, EveryWord, EveryExpr, EveryFormal, EveryEntry, EveryPriority, EveryDecl, EveryBody}
 use Rattle.syn_event.specs.DeclaredTasks.{decl_list}
-use Rattle.normal_structure.specs.placed.Example.{nowhere, word, formal, entry}
+use Rattle.normal_laws.specs.structure.placed.Example.{nowhere, word, formal, entry}
 use Rattle.replay_structure.specs.checked.Around.{kept_names}
 use Rattle.replay_structure.specs.checked.Checkable.{IsCheckable}
 use Rattle.replay_structure.specs.checked.Example.{example_set, example_ops}
@@ -64,5 +64,6 @@ example_is_checkable = record {
   few_entries = le_is _ 1000 refl;
   few_numbers = le_is _ 200 refl;
   short = ((le_is _ 144 refl, tt), tt);
-  joined = (tt, (tt, (tt, (tt, (tt, (tt, (refl, (tt, tt))))))));
+  few_ops = le_is _ 1000000 refl;
+  joined = (refl, tt);
 }

@@ -7,9 +7,9 @@ use Rattle.ada_tree.specs.PlainDecl.{PDecl, DNumber, DObject, DEnumeration, DArr
 use Rattle.syn_event.specs.CheckSites.{body_names}
 use Rattle.syn_event.specs.DeclaredTasks.{decl_list}
 use Rattle.task_model.specs.Setting.{Setting}
-use Rattle.normal_structure.proofs.numbers.Listed.{IsPlain, IsOneTask, IsOneBody}
+use Rattle.normal_laws.proofs.structure.numbers.Listed.{IsPlain, IsOneTask, IsOneBody}
 use Rattle.replay_model.specs.ReplayTree.{replay_decl}
-use Rattle.normal_is_legal.proofs.declares_once.Bodies.{body_ids, ids-joined}
+use Rattle.normal_laws.proofs.legality.declares_once.Bodies.{body_ids, ids-joined}
 
 pub ids-listed : (ds : PDecls) → body_names ds ≡ body_ids (decl_list ds)
 ids-listed no_decl = refl

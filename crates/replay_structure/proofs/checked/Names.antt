@@ -12,7 +12,7 @@ use Rattle.ada_tree.specs.PlainDecl.{PEntry, PTask}
 use Rattle.ada_tree.specs.PlainProgram.{PProgram}
 use Rattle.syn_event.specs.DeclaredTasks.{text_of, tasks_of}
 use Rattle.replay_model.specs.Names.{added_texts, double_text, double_texts, replay_names, added_id, double_word}
-use Rattle.normal_structure.proofs.numbers.Named.{Has, has-folded, has-front, has-back, text-there, text-longer}
+use Rattle.normal_laws.proofs.structure.numbers.Named.{Has, has-folded, has-front, has-back, text-there, text-longer}
 use Rattle.replay_structure.proofs.texts.Rooted.{replay-begins, replay-has}
 use Rattle.replay_structure.specs.checked.Around.{meant_texts, kept_name}
 

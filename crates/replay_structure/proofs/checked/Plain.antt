@@ -15,7 +15,7 @@ use Rattle.syn_event.specs.declared.limits.What.TheVariants.{Members, Components
 use Rattle.syn_event.specs.CheckScope.{CheckScope, CheckSite, counts}
 use Rattle.syn_event.specs.CheckSites as check
 use Rattle.syn_event.specs.Extents.{size, range_start}
-use Rattle.normal_structure.proofs.numbers.Listed.{IsPlain}
+use Rattle.normal_laws.proofs.structure.numbers.Listed.{IsPlain}
 use Rattle.replay_structure.specs.checked.Around.{kept_names}
 use Rattle.replay_structure.specs.checked.Checkable.{HasSameSize, IsSameShape, IsSameDecl}
 use Rattle.replay_structure.proofs.checked.Stays.{IsFormMet, IsTextMet, UsesStay, words-stay, name-stays, expr-stays, list-stays, drange-stays, subind-stays, formals-stay}

@@ -15,7 +15,7 @@ use Rattle.syn_event.specs.RuleMainEntry.{no_task, main_entry}
 use Rattle.syn_event.specs.RuleSharedVariable.{shared_name, in_body_of, shared_variable}
 use Rattle.replay_model.specs.Names.{never_text, added_id}
 use Rattle.replay_structure.specs.checked.Around.{IsAsking}
-use Rattle.normal_structure.proofs.checked.Scopes.{nothing-in}
+use Rattle.normal_laws.proofs.structure.checked.Scopes.{nothing-in}
 
 -- ---- one name more
 

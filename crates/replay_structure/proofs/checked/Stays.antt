@@ -22,9 +22,9 @@ use Rattle.syn_event.specs.RuleMainEntry.{no_task}
 use Rattle.syn_event.specs.RuleSharedVariable.{shared_name, in_body_of, shared_variable}
 use Rattle.syn_event.proofs.Nothing.{test_fails}
 use Rattle.legal_programs.specs.sites.Met.{IsCheckMet}
-use Rattle.normal_structure.specs.asked.Pieces.{IsPlain}
-use Rattle.normal_structure.proofs.checked.Stays.{formal-words}
-use Rattle.normal_structure.proofs.checked.Places.{met-deep, met-name, met-use, met-callee, met-accept, met-exit, met-raise}
+use Rattle.normal_laws.specs.structure.asked.Pieces.{IsPlain}
+use Rattle.normal_laws.proofs.structure.checked.Stays.{formal-words}
+use Rattle.normal_laws.proofs.structure.checked.Places.{met-deep, met-name, met-use, met-callee, met-accept, met-exit, met-raise}
 use Rattle.replay_model.specs.Names.{replay_names}
 use Rattle.replay_structure.specs.checked.Around.{kept_name, kept_names, IsAsking}
 use Rattle.replay_structure.proofs.checked.Names.{kept-text}

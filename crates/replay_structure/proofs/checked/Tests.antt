@@ -18,7 +18,7 @@ use Rattle.task_model.specs.Setting.{is_family, first_expr, lists_in, lists_of}
 use Rattle.normal_model.specs.Ranges.{kind_of_range, family_range}
 use Rattle.normal_model.specs.Calls.{entry_called, lists_called}
 use Rattle.normal_model.specs.RewrittenUnit.{RewrittenUnit}
-use Rattle.normal_structure.proofs.checked.Places.{met-deep, met-use}
+use Rattle.normal_laws.proofs.structure.checked.Places.{met-deep, met-use}
 use Rattle.replay_model.specs.Names.{kind_text, argument_text, index_text, replay_names, added_id}
 use Rattle.replay_model.specs.Asking.{permit_part, both, permit_is_kind, permit_is_for, as_number, number_in, member_number, permit_is_at}
 use Rattle.replay_model.specs.Waiting.{never_so, and_guard, is_shut, Pause, and_later, is_due}

@@ -23,14 +23,14 @@ use Rattle.legal_programs.proofs.sites.Meeting.{all_check_met}
 use Rattle.task_model.specs.Setting.{Setting}
 use Rattle.control_script.specs.declared.Op.{Op}
 use Rattle.normal_model.specs.NormalTree.{main_unit}
-use Rattle.normal_structure.proofs.numbers.Listed.{IsOneTask, IsOneBody}
-use Rattle.normal_structure.proofs.checked.Joined.{meets-checks}
+use Rattle.normal_laws.proofs.structure.numbers.Listed.{IsOneTask, IsOneBody}
+use Rattle.normal_laws.proofs.structure.checked.Joined.{meets-checks}
 use Rattle.replay_model.specs.Names.{control_text, idle_text, replay_names, added_id}
 use Rattle.replay_model.specs.ReplayTree.{behind_own, permit_declared, replay_decl, is_task, is_body, last_task, replay_decls, replay_of}
 use Rattle.replay_model.specs.Controlling.{control_declared, idle_declared, control_body, idle_body}
 use Rattle.replay_structure.proofs.texts.Listed.{all-behind, more_task, sorted-plain, added_tasks, replay-tasks}
 use Rattle.replay_structure.specs.checked.Around.{kept_names}
-use Rattle.normal_structure.specs.numbers.Single.{IsSingle}
+use Rattle.normal_laws.specs.structure.numbers.Single.{IsSingle}
 use Rattle.replay_structure.specs.checked.Checkable.{is_plain, IsOtherThanTruth, HasForm, IsSameDecl, entries_count, IsShortEntry, IsCheckable}
 use Rattle.replay_structure.specs.checked.Laws.{ReplayMeetsChecks}
 use Rattle.replay_structure.proofs.checked.Names.{IsDoubled, doubles-named}
@@ -43,8 +43,8 @@ use Rattle.replay_structure.proofs.checked.Control.{control-met, idle-met}
 use Rattle.replay_structure.proofs.checked.Counted.{counted-met, entries-joined, entries-doubled}
 use Rattle.replay_structure.proofs.checked.Named.{ids-listed, ids-of, plain-ids, task-ids, body-ids-same, any-front, any-back}
 use Rattle.replay_structure.proofs.checked.Along.{OnTask, on-tasks, HasAlong, front-along, tasks-along, unit-met, bodies-along}
-use Rattle.normal_structure.proofs.checked.MainScopes.{frame-refl}
-use Rattle.normal_is_legal.proofs.declares_once.Bodies.{ids-joined, body_ids}
+use Rattle.normal_laws.proofs.structure.checked.MainScopes.{frame-refl}
+use Rattle.normal_laws.proofs.legality.declares_once.Bodies.{ids-joined, body_ids}
 
 -- ---- lists
 
@@ -306,7 +306,7 @@ module _ (g : Setting) (ops : List Op) (h : IsCheckable g ops) where
         (along-join M' ids front tasks' d0 plain-met.met tasks-met.met)
         (subst (λ d. AllAlong M' ids d added) (sym (after-joined front tasks' d0)) (control-declared-met q d2 ids s n h.few_numbers control-there, (idle-declared-met q (check.after_decl d2 (control_declared q s n)) ids s idle-there, tt))))
         (subst (λ d. AllAlong M' ids d bodies') (sym behind-added) copies-met))
-        (subst (λ d. AllAlong M' ids d last) (sym behind-bodies) (control-met g d2 s n behind.accepting' behind.calls ids ops h.joined, (idle-met g d2 s n behind.accepting' behind.calls ids, tt)))
+        (subst (λ d. AllAlong M' ids d last) (sym behind-bodies) (control-met g d2 s n behind.accepting' behind.calls ids ops h.few_ops h.joined, (idle-met g d2 s n behind.accepting' behind.calls ids, tt)))
       where
         behind-added : after_all d0 (front ++ tasks' ++ added) ≡ d3
         behind-added = after-joined (front ++ tasks') added d0 ∙ ap (λ d. after_all d added) (after-joined front tasks' d0)

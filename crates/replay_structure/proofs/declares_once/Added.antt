@@ -1,5 +1,5 @@
 -- What the two tasks that a replay text adds name, and their bodies.
-use Rattle.std.proofs.Common.{◌≡◌, ℕ, true, false, ◌||◌, ◌==◌, List, [], ◌∷◌, ◌++◌, None, refl, ap₂, ◌∙◌}
+use Rattle.std.proofs.Common.{◌≡◌, ℕ, suc, Bool, true, false, ◌||◌, ◌==◌, List, [], ◌∷◌, ◌++◌, length, map, drop, None, refl, ap, ap₂, ◌∙◌, append-nil}
 use Rattle.std.specs.List.{AllByRecursion}
 use Rattle.std.specs.Str.{bytes_eq}
 use Rattle.std.proofs.lemmas.Bool.{or_from}
@@ -7,26 +7,33 @@ use Rattle.std.proofs.lemmas.Grind.{flat_map-append}
 use Rattle.ada_tree.specs.declared.naming.Span.{Span}
 use Rattle.ada_tree.specs.declared.naming.Word.{Word}
 use Rattle.ada_static_rules.specs.RuleDuplicate.{is_predefined, is_among}
-use Rattle.ada_tree.specs.PlainDecl.{PEntry}
+use Rattle.ada_tree.specs.PlainStmt.{stmts_of, case_arms_of, PBody, body, no_handler}
+use Rattle.ada_tree.specs.PlainDecl.{PEntry, decls_of}
+use Rattle.syn_event.specs.declared.numbering.TaskInfo.{TaskInfo}
+use Rattle.normal_model.specs.Ranges.{word_at}
 use Rattle.task_model.specs.Setting.{Setting}
 use Rattle.control_script.specs.declared.Op.{Op}
-use Rattle.control_script.specs.declared.Op.TheVariants.{Go, Done, Join, Hold}
-use Rattle.common_lemmas.proofs.Lists.{all_joined}
+use Rattle.common_lemmas.proofs.Lists.{all_front, all_back, all_joined, texts_differ}
 use Rattle.ada_tree.specs.PlainProgram.{PProgram}
-use Rattle.replay_model.specs.Names.{kind_text, argument_text, index_text, control_text, go_text, done_text, hold_text, idle_text, stop_text, rest_text, added_texts, added_word}
+use Rattle.replay_model.specs.Names.{kind_text, argument_text, index_text, control_text, go_text, done_text, hold_text, idle_text, stop_text, rest_text, operations_text, tasks_text, kinds_text, arguments_text, indices_text, added_texts, added_word}
 use Rattle.replay_model.specs.ReplayTree.{permit_declared, last_task}
-use Rattle.replay_model.specs.Controlling.{added_entry, all_tasks, permit_formals, op_statement, op_statements, control_body, idle_body}
+use Rattle.replay_model.specs.declared.tables.names.ControlNames.{ControlNames}
+use Rattle.replay_model.specs.tables.Columns.{acts, holds}
+use Rattle.replay_model.specs.tables.Tables.{tables_for}
+use Rattle.replay_model.specs.tables.Turns.{join_arms, turn}
+use Rattle.replay_model.specs.tables.ControlBodies.{loops, waits}
+use Rattle.replay_model.specs.Controlling.{added_entry, all_tasks, control_ids, permit_formals, control_body, idle_body}
 use Rattle.replay_structure.proofs.texts.Rooted.{replay-has}
 use Rattle.replay_structure.proofs.texts.Listed.{added_tasks}
-use Rattle.normal_structure.proofs.numbers.Named.{Has}
+use Rattle.normal_laws.proofs.structure.numbers.Named.{Has}
 use Rattle.ada_decl_rules.specs.duplicates.NamedSoFar.{object_words}
 use Rattle.ada_decl_rules.specs.duplicates.NamingsInOrder.{declared}
 use Rattle.ada_decl_rules.specs.declared.duplicates.namings_in_order.Naming.{Naming}
 use Rattle.ada_decl_rules.specs.declared.duplicates.namings_in_order.Naming.TheVariants.{Declares, Once}
-use Rattle.normal_structure.specs.once.Apart.{IsFreeOf, AreDistinct, fixed_name, fixed_names, IsFitIn}
-use Rattle.normal_structure.specs.once.Names.{stmt_names, stmts_names, entries_names, tasks_names, bodies_names}
-use Rattle.normal_structure.proofs.once.Once.{apart-none}
-use Rattle.normal_is_legal.proofs.declares_once.DeclaredNames.{word_ids}
+use Rattle.normal_laws.specs.structure.once.Apart.{IsFreeOf, AreDistinct, fixed_name, fixed_names, IsFitIn}
+use Rattle.normal_laws.specs.structure.once.Names.{stmt_names, case_arms_names, entries_names, tasks_names, inner_names, bodies_names}
+use Rattle.normal_laws.proofs.structure.once.Once.{apart-none}
+use Rattle.normal_laws.proofs.legality.declares_once.DeclaredNames.{word_ids}
 use Rattle.replay_structure.proofs.declares_once.Ids.{apart-by, id, added-apart}
 use Rattle.replay_structure.proofs.declares_once.Grown.{alone-from, declared-new}
 use Rattle.replay_structure.proofs.declares_once.Plain.{AreFresh}
@@ -56,6 +63,22 @@ module _ (q : PProgram) where
         (or_from (id q hold_text == id q go_text) false (texts-apart hold_text go_text refl refl refl refl) refl),
     (or_from (id q hold_text == id q done_text) false (texts-apart hold_text done_text refl refl refl refl) refl, (refl, tt)),
   )
+
+  -- those of the controller's tables
+  tables-distinct : AreDistinct (id q operations_text ∷ id q tasks_text ∷ id q kinds_text ∷ id q arguments_text ∷ id q indices_text ∷ [])
+  tables-distinct = (
+    none operations_text (tasks_text ∷ kinds_text ∷ arguments_text ∷ indices_text ∷ []) refl refl (refl, (refl, (refl, (refl, tt)))) (refl, (refl, (refl, (refl, tt)))),
+    (
+      none tasks_text (kinds_text ∷ arguments_text ∷ indices_text ∷ []) refl refl (refl, (refl, (refl, tt))) (refl, (refl, (refl, tt))),
+      (none kinds_text (arguments_text ∷ indices_text ∷ []) refl refl (refl, (refl, tt)) (refl, (refl, tt)), (none arguments_text (indices_text ∷ []) refl refl (refl, tt) (refl, tt), (refl, tt))),
+    ),
+  )
+    where
+      none : (t : List ℕ) (us : List (List ℕ)) → Has added_texts t → bytes_eq t t ≡ true → AllByRecursion (Has added_texts) us → AllByRecursion (λ u. bytes_eq u t ≡ false) us →
+          is_among (map (id q) us) (id q t) ≡ false
+      none t [] h e hs ns = refl
+      none t (u ∷ us) h e hs ns =
+          or_from (id q u == id q t) (is_among (map (id q) us) (id q t)) (added-apart q u t (replay-has q u hs.0) (replay-has q t h) (texts_differ u t ns.0)) (none t us h e hs.1 ns.1)
 
   two-distinct : AreDistinct (id q stop_text ∷ id q rest_text ∷ [])
   two-distinct = (or_from (id q rest_text == id q stop_text) false (texts-apart rest_text stop_text refl refl refl refl) refl, (refl, tt))
@@ -104,34 +127,90 @@ module _ (F X : List ℕ) (g : Setting) (s : Span) (are : AreFresh F X (object_w
 
   -- ---- bodies
 
-  op-fit : (op : Op) → AllByRecursion (IsFitIn F) (stmt_names (op_statement g s op))
-  op-fit (Go t kind arg index) = permit-fit
-  op-fit (Done t) = tt
-  op-fit (Join t) = ((refl, tt), tt)
-  op-fit Hold = tt
+  abbrev ids : ControlNames
+  ids = control_ids g.program
 
-  op-fixed : (op : Op) → fixed_names (stmt_names (op_statement g s op)) ≡ []
-  op-fixed (Go t kind arg index) = refl
-  op-fixed (Done t) = refl
-  op-fixed (Join t) = refl
-  op-fixed Hold = refl
+  -- the tables and the loop parameter of the controller
+  abbrev table_words : List Word
+  table_words = word_at s ids.operations ∷ word_at s ids.tasks ∷ word_at s ids.kinds ∷ word_at s ids.arguments ∷ word_at s ids.indices ∷ []
 
-  ops-fit : (ops : List Op) → AllByRecursion (IsFitIn F) (stmts_names (op_statements g s ops))
-  ops-fit [] = tt
-  ops-fit (op ∷ ops) = all_joined (IsFitIn F) (stmt_names (op_statement g s op)) (stmts_names (op_statements g s ops)) (op-fit op) (ops-fit ops)
+  abbrev pub control_words : List Word
+  control_words = table_words ++ word_at s ids.counter ∷ []
 
-  ops-fixed : (ops : List Op) → fixed_names (stmts_names (op_statements g s ops)) ≡ []
-  ops-fixed [] = refl
-  ops-fixed (op ∷ ops) =
-      flat_map-append fixed_name (stmt_names (op_statement g s op)) (stmts_names (op_statements g s ops)) ∙ ap₂ (λ (a b : List ℕ). a ++ b) (op-fixed op) (ops-fixed ops)
+  -- the loop parameter is the last of these
+  abbrev IsFreshWord : Word → Type 0
+  IsFreshWord w = (is_predefined w.name.0 ≡ false) × IsFreeOf F w.name.0
 
-  pub added-bodies-fit : (ops : List Op) (here : List ℕ) → IsFreeOf here c → IsFreeOf here d → AllByRecursion (IsFitIn F) (bodies_names here (control_body g s ops ∷ idle_body g.program s ∷ []))
-  added-bodies-fit ops here a b =
+  tables-fit : AllByRecursion IsFreshWord control_words → AllByRecursion (IsFitIn F) (declared false [] table_words)
+  tables-fit n = declared-new F X [] table_words (all_front IsFreshWord table_words (word_at s ids.counter ∷ []) n) (apart-none (word_ids table_words)) (tables-distinct g.program)
+
+  counter-fit : AllByRecursion IsFreshWord control_words → IsFitIn F (Declares false false (word_at s ids.counter))
+  counter-fit n =
+      let new = (all_back IsFreshWord table_words (word_at s ids.counter ∷ []) n).0 in
+      (alone-from false false (word_at s ids.counter) new.0 refl, (new.1, tt))
+
+  -- the controller's wait for the end of a task names TASKING_ERROR
+  joins-fit : (t : ℕ) (infos : List TaskInfo) → AllByRecursion (IsFitIn F) (case_arms_names (case_arms_of (join_arms ids s t infos)))
+  joins-fit t [] = tt
+  joins-fit t (info ∷ infos) = ((refl, tt), joins-fit (suc t) infos)
+
+  joins-fixed : (t : ℕ) (infos : List TaskInfo) → fixed_names (case_arms_names (case_arms_of (join_arms ids s t infos))) ≡ []
+  joins-fixed t [] = refl
+  joins-fixed t (info ∷ infos) = joins-fixed (suc t) infos
+
+  abbrev joins : List TaskInfo → List Naming
+  joins infos = case_arms_names (case_arms_of (join_arms ids s 1 (drop 1 infos)))
+
+  turn-fit : (infos : List TaskInfo) → AllByRecursion (IsFitIn F) (stmt_names (turn ids infos s))
+  turn-fit infos =
+      all_joined (IsFitIn F) (declared false [] parts) ((joins infos ++ []) ++ []) permit-fit
+      (all_joined (IsFitIn F) (joins infos ++ []) [] (all_joined (IsFitIn F) (joins infos) [] (joins-fit 1 (drop 1 infos)) tt) tt)
+
+  turn-fixed : (infos : List TaskInfo) → fixed_names (stmt_names (turn ids infos s)) ≡ []
+  turn-fixed infos = ap fixed_names (append-nil (joins infos ++ []) ∙ append-nil (joins infos)) ∙ joins-fixed 1 (drop 1 infos)
+
+  -- the loop, and what stands behind it
+  abbrev loop_names : List TaskInfo → List Naming
+  loop_names infos = Declares false false (word_at s ids.counter) ∷ (stmt_names (turn ids infos s) ++ [])
+
+  loop-fit : (infos : List TaskInfo) → AllByRecursion IsFreshWord control_words → AllByRecursion (IsFitIn F) (loop_names infos)
+  loop-fit infos n = (counter-fit n, all_joined (IsFitIn F) (stmt_names (turn ids infos s)) [] (turn-fit infos) tt)
+
+  loop-fixed : (infos : List TaskInfo) → fixed_names (loop_names infos) ≡ []
+  loop-fixed infos = ap fixed_names (append-nil (stmt_names (turn ids infos s))) ∙ turn-fixed infos
+
+  -- the controller's body, by what is made and whether it waits then
+  abbrev its : List TaskInfo → List Op → Bool → PBody
+  its infos made hold = body (stmts_of (loops ids infos s (length made) ++ waits ids s hold)) no_handler
+
+  abbrev control_names : List TaskInfo → List Op → Bool → List Naming
+  control_names infos made hold = inner_names (decls_of (tables_for ids s made)) (its infos made hold)
+
+  inner-fit : (infos : List TaskInfo) (made : List Op) (hold : Bool) → AllByRecursion IsFreshWord control_words → AllByRecursion (IsFitIn F) (control_names infos made hold)
+  inner-fit infos [] false n = tt
+  inner-fit infos [] true n = tt
+  inner-fit infos (op ∷ made) false n =
+      all_joined (IsFitIn F) (declared false [] table_words) ((loop_names infos ++ []) ++ []) (tables-fit n) (all_joined (IsFitIn F) (loop_names infos ++ []) [] (all_joined (IsFitIn F) (loop_names infos) [] (loop-fit infos n) tt) tt)
+  inner-fit infos (op ∷ made) true n =
+      all_joined (IsFitIn F) (declared false [] table_words) ((loop_names infos ++ []) ++ []) (tables-fit n) (all_joined (IsFitIn F) (loop_names infos ++ []) [] (all_joined (IsFitIn F) (loop_names infos) [] (loop-fit infos n) tt) tt)
+
+  loops-fixed : (infos : List TaskInfo) → fixed_names ((loop_names infos ++ []) ++ []) ≡ []
+  loops-fixed infos = ap fixed_names (append-nil (loop_names infos ++ []) ∙ append-nil (loop_names infos)) ∙ loop-fixed infos
+
+  inner-fixed : (infos : List TaskInfo) (made : List Op) (hold : Bool) → fixed_names (control_names infos made hold) ≡ []
+  inner-fixed infos [] false = refl
+  inner-fixed infos [] true = refl
+  inner-fixed infos (op ∷ made) false = loops-fixed infos
+  inner-fixed infos (op ∷ made) true = loops-fixed infos
+
+  pub added-bodies-fit : (ops : List Op) (here : List ℕ) → AllByRecursion (λ (w : Word). (is_predefined w.name.0 ≡ false) × IsFreeOf F w.name.0) control_words → IsFreeOf here c → IsFreeOf here d →
+      AllByRecursion (IsFitIn F) (bodies_names here (control_body g s ops ∷ idle_body g.program s ∷ []))
+  added-bodies-fit ops here n a b =
       let second : List Naming = Once (is_among (c ∷ here) d) (added_word g.program s idle_text) ∷ [] in
       let second-fit : AllByRecursion (IsFitIn F) second = ((idle-free here b, tt), tt) in
-      ((a, tt), all_joined (IsFitIn F) (stmts_names (op_statements g s ops) ++ []) second (all_joined (IsFitIn F) (stmts_names (op_statements g s ops)) [] (ops-fit ops) tt) second-fit)
+      ((a, tt), all_joined (IsFitIn F) (control_names g.numbers.tasks (acts ops) (holds ops)) second (inner-fit g.numbers.tasks (acts ops) (holds ops) n) second-fit)
 
   pub added-bodies-fixed : (ops : List Op) (here : List ℕ) → fixed_names (bodies_names here (control_body g s ops ∷ idle_body g.program s ∷ [])) ≡ []
   added-bodies-fixed ops here =
-      flat_map-append fixed_name (stmts_names (op_statements g s ops) ++ []) (Once (is_among (c ∷ here) d) (added_word g.program s idle_text) ∷ [])
-      ∙ ap₂ (λ (a b : List ℕ). a ++ b) (flat_map-append fixed_name (stmts_names (op_statements g s ops)) [] ∙ ap₂ (λ (a b : List ℕ). a ++ b) (ops-fixed ops) refl) refl
+      flat_map-append fixed_name (control_names g.numbers.tasks (acts ops) (holds ops)) (Once (is_among (c ∷ here) d) (added_word g.program s idle_text) ∷ [])
+      ∙ ap₂ (λ (a b : List ℕ). a ++ b) (inner-fixed g.numbers.tasks (acts ops) (holds ops)) refl

@@ -1,6 +1,6 @@
 -- Two programs that are as the law asks.
-use Rattle.normalisable.proofs.Instance.{choosing-is-legal}
-use Rattle.normalisable.proofs.Coloured.{coloured-is-legal}
+use Rattle.normal_laws.proofs.existence.Instance.{choosing-is-legal}
+use Rattle.normal_laws.proofs.existence.Coloured.{coloured-is-legal}
 use Rattle.replay_structure.specs.declares_once.Laws.{IsMet}
 use Rattle.replay_structure.proofs.declares_once.Legal.{legal_leaves_names}
 

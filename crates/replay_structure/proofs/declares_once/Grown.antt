@@ -10,9 +10,9 @@ use Rattle.ada_decl_rules.specs.duplicates.NamingsInOrder.{declared}
 use Rattle.ada_decl_rules.specs.declared.duplicates.namings_in_order.Naming.{Naming}
 use Rattle.ada_decl_rules.specs.declared.duplicates.namings_in_order.Naming.TheVariants.{Declares}
 use Rattle.common_lemmas.proofs.Lists.{all_joined, all_weaker}
-use Rattle.normal_structure.specs.once.Apart.{IsFreeOf, AreApart, AreDistinct, IsAlone, fixed_name, loose_name, fixed_names, IsFitIn}
-use Rattle.normal_structure.proofs.once.Once.{one-apart, apart-both}
-use Rattle.normal_is_legal.proofs.declares_once.DeclaredNames.{word_ids}
+use Rattle.normal_laws.specs.structure.once.Apart.{IsFreeOf, AreApart, AreDistinct, IsAlone, fixed_name, loose_name, fixed_names, IsFitIn}
+use Rattle.normal_laws.proofs.structure.once.Once.{one-apart, apart-both}
+use Rattle.normal_laws.proofs.legality.declares_once.DeclaredNames.{word_ids}
 use Rattle.replay_structure.specs.declares_once.Names.{word_named}
 
 -- ---- one naming

@@ -15,8 +15,8 @@ use Rattle.ada_tree.specs.PlainDecl.{PEntry, PTask}
 use Rattle.ada_tree.specs.PlainProgram.{PProgram}
 use Rattle.syn_event.specs.DeclaredTasks.{text_of, tasks_of}
 use Rattle.normal_model.proofs.VariablesLemmas.{Begins}
-use Rattle.normal_structure.proofs.types.Names.{text-place}
-use Rattle.normal_structure.proofs.numbers.Named.{Has, has-folded, has-back}
+use Rattle.normal_laws.proofs.structure.types.Names.{text-place}
+use Rattle.normal_laws.proofs.structure.numbers.Named.{Has, has-folded, has-back}
 use Rattle.legal_programs.proofs.rewritten_values.Saying.{place-within}
 use Rattle.replay_model.specs.Names.{added_texts, double_text, double_texts, replay_names, added_id}
 use Rattle.replay_structure.proofs.texts.Rooted.{replay-begins}

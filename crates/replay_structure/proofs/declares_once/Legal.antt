@@ -23,33 +23,33 @@ use Rattle.normal_model.specs.Names.{task_name}
 use Rattle.normal_model.specs.RewrittenUnit.{RewrittenUnit}
 use Rattle.normal_model.specs.NormalStmts.{normal_body, unit_variables}
 use Rattle.normal_model.specs.NormalTree.{decls_front, first_decls, tasks_beside, unit_for, first_running, running, body_copy, bodies_of, main_unit, main_variables, variables_if, variables_of_body, greatest, variables_needed}
-use Rattle.normal_structure.proofs.types.Names.{names-begin}
-use Rattle.normal_structure.proofs.units.Tasks.{list-front, made-tasks, tasks-of}
-use Rattle.normal_structure.proofs.units.Declared.{parts-all, numbered-tasks-all}
-use Rattle.normal_structure.proofs.numbers.Listed.{firsts, vars, tasks, bodies}
-use Rattle.normal_structure.proofs.numbers.Tasked.{under, normal-tasks-of}
-use Rattle.normal_runs.specs.forms.Normalisable.{numbers_of, setting_for, made_for}
-use Rattle.normal_runs.proofs.forms.Numbered.{AreNumbered, none_numbered, numbered_then, unit-numbered}
-use Rattle.normalisable.proofs.units.Fields.{legal_is_ordered}
-use Rattle.normalisable.proofs.units.TasksApart.{IsNamed, members-there, all-named}
-use Rattle.normalisable.proofs.units.DeclaredNames.{tasks-good}
-use Rattle.normalisable.specs.Laws.{IsLegalOriginal}
+use Rattle.normal_laws.proofs.structure.types.Names.{names-begin}
+use Rattle.normal_laws.proofs.structure.units.Tasks.{list-front, made-tasks, tasks-of}
+use Rattle.normal_laws.proofs.structure.units.Declared.{parts-all, numbered-tasks-all}
+use Rattle.normal_laws.proofs.structure.numbers.Listed.{firsts, vars, tasks, bodies}
+use Rattle.normal_laws.proofs.structure.numbers.Tasked.{under, normal-tasks-of}
+use Rattle.normal_laws.specs.runs.forms.Normalisable.{numbers_of, setting_for, made_for}
+use Rattle.normal_laws.proofs.runs.forms.Numbered.{AreNumbered, none_numbered, numbered_then, unit-numbered}
+use Rattle.normal_laws.proofs.existence.units.Fields.{legal_is_ordered}
+use Rattle.normal_laws.proofs.existence.units.TasksApart.{IsNamed, members-there, all-named}
+use Rattle.normal_laws.proofs.existence.units.DeclaredNames.{tasks-good}
+use Rattle.normal_laws.specs.existence.Laws.{IsLegalOriginal}
 use Rattle.ada_decl_rules.specs.duplicates.NamedSoFar.{object_words}
 use Rattle.ada_decl_rules.specs.duplicates.NamingsInOrder.{declared}
 use Rattle.ada_decl_rules.specs.declared.duplicates.namings_in_order.Naming.{Naming}
-use Rattle.normal_structure.specs.once.Names.{body_names, entries_names, tasks_names, inner_names, bodies_names}
-use Rattle.normal_structure.proofs.once.Rewritten as normal
-use Rattle.normal_is_legal.proofs.declares_once.Ids.{IsGoodId}
-use Rattle.normal_is_legal.proofs.declares_once.Good.{good_names, program-good}
-use Rattle.normal_is_legal.proofs.declares_once.DeclaredNames.{word_ids, ids_declared}
-use Rattle.normal_is_legal.proofs.declares_once.Tasks.{ids-good}
-use Rattle.normal_is_legal.proofs.declares_once.Whole.{normal_declares_once}
+use Rattle.normal_laws.specs.structure.once.Names.{body_names, entries_names, tasks_names, inner_names, bodies_names}
+use Rattle.normal_laws.proofs.structure.once.Rewritten as normal
+use Rattle.normal_laws.proofs.legality.declares_once.Ids.{IsGoodId}
+use Rattle.normal_laws.proofs.legality.declares_once.Good.{good_names, program-good}
+use Rattle.normal_laws.proofs.legality.declares_once.DeclaredNames.{word_ids, ids_declared}
+use Rattle.normal_laws.proofs.legality.declares_once.Tasks.{ids-good}
+use Rattle.normal_laws.proofs.legality.declares_once.Whole.{normal_declares_once}
 use Rattle.replay_structure.specs.declares_once.Names.{word_named, IsKept, LeavesNames}
 use Rattle.replay_structure.specs.declares_once.Laws.{LegalLeavesNames, LegalReplayDeclaresOnce}
 use Rattle.replay_structure.proofs.declares_once.Ids.{IsOwn}
 use Rattle.replay_structure.proofs.declares_once.Plain.{plain_names, instance_behind, plains_names}
 use Rattle.replay_structure.proofs.declares_once.Named.{declared-all, body-obeys, entries-obey}
-use Rattle.normal_structure.proofs.types.NamesApart.{normal-apart, front-kept}
+use Rattle.normal_laws.proofs.structure.types.NamesApart.{normal-apart, front-kept}
 use Rattle.replay_structure.proofs.declares_once.Texts.{good-own, variable-own, task-own}
 use Rattle.replay_structure.proofs.declares_once.Listed.{first_names, tasks_here, unit_names, copy_names, main_name}
 use Rattle.replay_structure.proofs.declares_once.Whole.{normal-named, replay_declares_once}

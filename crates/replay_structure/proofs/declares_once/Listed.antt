@@ -12,18 +12,18 @@ use Rattle.legal_programs.specs.rewritten_types.Rewriting.{names_declared}
 use Rattle.common_lemmas.proofs.Lists.{all_joined, all_weaker}
 use Rattle.replay_model.specs.ReplayTree.{is_body}
 use Rattle.replay_structure.proofs.texts.Listed.{plain-tests}
-use Rattle.normal_structure.proofs.numbers.Listed.{IsPlain, IsOneTask, IsOneBody}
+use Rattle.normal_laws.proofs.structure.numbers.Listed.{IsPlain, IsOneTask, IsOneBody}
 use Rattle.ada_decl_rules.specs.duplicates.NamingsInOrder.{namings_of}
 use Rattle.ada_decl_rules.specs.declared.duplicates.namings_in_order.Naming.{Naming}
 use Rattle.ada_decl_rules.specs.declared.duplicates.namings_in_order.Naming.TheVariants.{Declares}
 use Rattle.ada_decl_rules.proofs.duplicates.Noting.{namings_append}
 use Rattle.ada_decl_rules.proofs.duplicates.Behind.{with_names_is, names_are}
-use Rattle.normal_structure.specs.once.Names.{body_names, tasks_names, bodies_names}
-use Rattle.normal_structure.proofs.once.Places.{body-is}
-use Rattle.normal_structure.proofs.once.TaskTypes.{first-types}
-use Rattle.normal_structure.proofs.once.Declared.{tasks-are, bodies-are}
+use Rattle.normal_laws.specs.structure.once.Names.{body_names, tasks_names, bodies_names}
+use Rattle.normal_laws.proofs.structure.once.Places.{body-is}
+use Rattle.normal_laws.proofs.structure.once.TaskTypes.{first-types}
+use Rattle.normal_laws.proofs.structure.once.Declared.{tasks-are, bodies-are}
 use Rattle.replay_structure.proofs.declares_once.Plain.{plains_names, plains-are, here-behind}
-use Rattle.normal_structure.proofs.once.Whole.{list-named}
+use Rattle.normal_laws.proofs.structure.once.Whole.{list-named}
 
 -- ---- no bodies stand before
 

@@ -10,8 +10,8 @@ use Rattle.ada_tree.specs.Every.{Rules, EveryWord, EveryFormal, EveryScheme, Eve
 use Rattle.ada_static_rules.specs.Sites.{all_names, with_words}
 use Rattle.ada_decl_rules.specs.declared.duplicates.namings_in_order.Naming.{Naming}
 use Rattle.ada_decl_rules.specs.duplicates.NamingsInOrder.{declared, named_once}
-use Rattle.normal_structure.specs.once.Names.{label_names, scheme_names, stmt_names, stmts_names, maybe_names, accept_names, alts_names, kind_names, arms_names, case_arms_names, body_names, handlers_names, entries_names}
-use Rattle.normalisable.proofs.walked_statements.Walk.{words-all}
+use Rattle.normal_laws.specs.structure.once.Names.{label_names, scheme_names, stmt_names, stmts_names, maybe_names, accept_names, alts_names, kind_names, arms_names, case_arms_names, body_names, handlers_names, entries_names}
+use Rattle.normal_laws.proofs.existence.walked_statements.Walk.{words-all}
 use Rattle.replay_structure.specs.declares_once.Names.{word_named}
 
 -- names that obey something, where they are declared or named

@@ -12,21 +12,21 @@ use Rattle.ada_static_rules.specs.Declaring.{declared_object, after_decl, after_
 use Rattle.ada_static_rules.specs.Sites.{with_words, decl_sites, decls_sites}
 use Rattle.legal_programs.specs.rewritten_types.Rewriting.{names_declared}
 use Rattle.replay_model.specs.ReplayTree.{is_added_object, behind_own}
-use Rattle.normal_structure.proofs.numbers.Listed.{IsPlain}
+use Rattle.normal_laws.proofs.structure.numbers.Listed.{IsPlain}
 use Rattle.ada_decl_rules.specs.duplicates.NamingsInOrder.{namings_of, declared}
 use Rattle.ada_decl_rules.specs.declared.duplicates.namings_in_order.Naming.{Naming}
 use Rattle.ada_decl_rules.specs.declared.duplicates.namings_in_order.Naming.TheVariants.{Once}
 use Rattle.ada_decl_rules.proofs.duplicates.Noting.{quiet_static, namings_append, quiet_none, declared_append}
 use Rattle.ada_decl_rules.proofs.duplicates.Behind.{with_names_is, still_in_main, array_is, instance_is, names_are, number_is, object_is, subtype_is}
 use Rattle.common_lemmas.proofs.Lists.{all_front, all_back, all_joined}
-use Rattle.normal_structure.specs.once.Apart.{IsFreeOf, AreApart, AreDistinct, fixed_names, IsFitIn}
-use Rattle.normal_structure.proofs.once.Once.{free-front, free-back, free-both, apart-turned}
-use Rattle.normal_structure.proofs.once.TaskTypes.{HasTypes, types-after, no-task}
-use Rattle.normal_structure.proofs.once.FirstDecls.{here-after}
-use Rattle.normal_is_legal.proofs.declares_once.DeclaredNames.{word_ids, words-free, free-words}
+use Rattle.normal_laws.specs.structure.once.Apart.{IsFreeOf, AreApart, AreDistinct, fixed_names, IsFitIn}
+use Rattle.normal_laws.proofs.structure.once.Once.{free-front, free-back, free-both, apart-turned}
+use Rattle.normal_laws.proofs.structure.once.TaskTypes.{HasTypes, types-after, no-task}
+use Rattle.normal_laws.proofs.structure.once.FirstDecls.{here-after}
+use Rattle.normal_laws.proofs.legality.declares_once.DeclaredNames.{word_ids, words-free, free-words}
 use Rattle.replay_structure.proofs.declares_once.Grown.{declared-loose, IsGood, IsGrown, grown-words, IsSame, same-joined, same-then, good-fit, declared-same, declared-clear, declared-new}
 use Rattle.common_lemmas.proofs.Truth.{or_false}
-use Rattle.normal_structure.proofs.once.Whole.{plain-kinds}
+use Rattle.normal_laws.proofs.structure.once.Whole.{plain-kinds}
 
 -- ---- by their text
 

@@ -9,12 +9,12 @@ use Rattle.normal_model.specs.RewrittenUnit.{RewrittenUnit}
 use Rattle.normal_model.specs.Walk.{after_parts, after_stmts, after_accept, after_kind, after_alt, after_alts, after_arms, after_case_arms, alts_leads, image_of, rewritten, inside_maybe, inside_accept, inside_kind, inside_alts, inside_arms, inside_case_arms, inside_body, inside_handlers}
 use Rattle.ada_decl_rules.specs.duplicates.NamingsInOrder.{declared, named_once}
 use Rattle.ada_decl_rules.specs.declared.duplicates.namings_in_order.Naming.{Naming}
-use Rattle.normal_structure.specs.once.Names.{label_names, scheme_names, stmt_names, stmts_names, maybe_names, accept_names, alts_names, kind_names, arms_names, case_arms_names, body_names, handlers_names}
+use Rattle.normal_laws.specs.structure.once.Names.{label_names, scheme_names, stmt_names, stmts_names, maybe_names, accept_names, alts_names, kind_names, arms_names, case_arms_names, body_names, handlers_names}
 use Rattle.replay_model.specs.Asking.{done, permit_is_for, ask_which, branch}
 use Rattle.replay_model.specs.Serving.{serve, accept_image}
 use Rattle.replay_model.specs.Waiting.{Pause, pauses_of, only_pause, pausing, alternative_branches, else_branch, wait_image}
 use Rattle.replay_model.specs.ReplayStmts.{task_called, replay_image, replay_rewriter, with_handlers, abort_image, replay_body}
-use Rattle.normal_structure.proofs.once.Rewritten.{front-names, quiet-front}
+use Rattle.normal_laws.proofs.structure.once.Rewritten.{front-names, quiet-front}
 
 -- ---- lists of statements
 

@@ -1,27 +1,27 @@
 -- The texts of a normal form's names: none has two ids, and none of those that are declared or named is added by a replay text.
 use Rattle.std.proofs.Common.{◌≡◌, ℕ, suc, ◌+◌, ◌<◌, ◌-◌, ℤ, Bool, true, false, ◌||◌, nat_eq, List, [], ◌∷◌, ◌++◌, slice_get, unwrap_or, codes, Option, Some, None, IsSomeAnd, refl, sym, ap, ◌∙◌, subst, true≢false, arith}
-use Rattle.std.specs.List.{starts_with}
+use Rattle.std.specs.List.{AllByRecursion, list_any, starts_with}
 use Rattle.std.specs.Str.{bytes_eq}
 use Rattle.std.proofs.lemmas.Bool.{or_from}
 use Rattle.std.proofs.lemmas.List.{append_assoc}
 use Rattle.std.proofs.lemmas.Option.{slice_get_within}
 use Rattle.std.proofs.lemmas.Slice.Eq.{bytes_eq-Decides}
 use Rattle.common_lemmas.proofs.Truth.{and_false, false_behind, and_both, both_true}
+use Rattle.common_lemmas.proofs.Lists.{all_weaker}
 use Rattle.ada_tree.specs.Lexical.{IsIdentifier}
 use Rattle.syn_event.specs.RuleReservedName.{has_mark, is_reserved}
 use Rattle.syn_event.specs.declared.numbering.TaskInfo.{TaskInfo}
 use Rattle.task_model.specs.Setting.{Setting}
 use Rattle.normal_model.specs.Names.{index_text, variable_text, with_members, normal_names, variable_name, task_name}
 use Rattle.normal_model.proofs.VariablesLemmas.{Begins}
-use Rattle.normal_structure.proofs.types.Names.{variables-begin, names-begin, variable-there}
+use Rattle.normal_laws.proofs.structure.types.Names.{variables-begin, names-begin, variable-there}
 use Rattle.legal_programs.proofs.rewritten_values.Saying.{place-within}
-use Rattle.normalisable.proofs.units.TaskNames.{mark-there}
-use Rattle.normalisable.proofs.units.TasksApart.{full_text, IsNamed}
-use Rattle.normal_is_legal.proofs.declares_once.Ids.{IsGoodId}
-use Rattle.replay_model.specs.Names.{kind_text, argument_text, index_text as permit_index_text, control_text, idle_text, never_text, join_text}
-use Rattle.replay_structure.specs.declares_once.Names.{is_added_text}
+use Rattle.normal_laws.proofs.existence.units.TaskNames.{mark-there}
+use Rattle.normal_laws.proofs.existence.units.TasksApart.{full_text, IsNamed}
+use Rattle.normal_laws.proofs.legality.declares_once.Ids.{IsGoodId}
+use Rattle.replay_structure.specs.declares_once.Names.{declared_texts, is_added_text}
 use Rattle.replay_structure.proofs.declares_once.Ids.{IsOwn}
-use Rattle.normal_runs.proofs.forms.Names.{more-begin}
+use Rattle.normal_laws.proofs.runs.forms.Names.{more-begin}
 
 -- ---- texts
 
@@ -41,17 +41,13 @@ other-text f t u p q = by_test (bytes_eq t u) refl
     by_test false e = refl
     by_test true e = absurd (true≢false (sym p ∙ ap f (sym ((bytes_eq-Decides t u).0 e)) ∙ q))
 
-seven : (t : List ℕ) → bytes_eq t kind_text ≡ false → bytes_eq t argument_text ≡ false → bytes_eq t permit_index_text ≡ false → bytes_eq t control_text ≡ false → bytes_eq t idle_text ≡ false →
-    bytes_eq t never_text ≡ false → bytes_eq t join_text ≡ false → starts_with nat_eq t (codes "DED_S_") ≡ false → is_added_text t ≡ false
-seven t a b c d e f g h =
-    or_from _ (starts_with nat_eq t (codes "DED_S_"))
-    (or_from (bytes_eq t kind_text) _ a
-    (or_from (bytes_eq t argument_text) _ b
-    (or_from (bytes_eq t permit_index_text) _ c
-    (or_from (bytes_eq t control_text) _ d
-    (or_from (bytes_eq t idle_text) _ e
-    (or_from (bytes_eq t never_text) _ f
-    (or_from (bytes_eq t join_text) false g refl))))))) h
+-- none of these is the text
+pub none-equal : (t : List ℕ) (us : List (List ℕ)) → AllByRecursion (λ u. bytes_eq t u ≡ false) us → list_any (bytes_eq t) us ≡ false
+none-equal t [] h = refl
+none-equal t (u ∷ us) h = or_from (bytes_eq t u) (list_any (bytes_eq t) us) h.0 (none-equal t us h.1)
+
+none-added : (t : List ℕ) → AllByRecursion (λ u. bytes_eq t u ≡ false) declared_texts → starts_with nat_eq t (codes "DED_S_") ≡ false → is_added_text t ≡ false
+none-added t h s = or_from (list_any (bytes_eq t) declared_texts) (starts_with nat_eq t (codes "DED_S_")) (none-equal t declared_texts h) s
 
 abbrev begins_ded : List ℕ → Bool
 begins_ded t = starts_with nat_eq t (codes "DED_")
@@ -67,9 +63,11 @@ no-ded t h = by_test (begins_ded t) h
 pub original-text : (t : List ℕ) → is_reserved t ≡ false → is_added_text t ≡ false
 original-text t h =
     let n : begins_ded t ≡ false = no-ded t h in
-    seven t (other-text begins_ded t kind_text refl n) (other-text begins_ded t argument_text refl n) (other-text begins_ded t permit_index_text refl n) (other-text begins_ded t control_text refl n)
-    (other-text begins_ded t idle_text refl n) (other-text begins_ded t never_text refl n) (other-text begins_ded t join_text refl n) (by_test (starts_with nat_eq t (codes "DED_S_")) refl n)
+    none-added t (all_weaker (λ u. begins_ded u ≡ true) (λ u. bytes_eq t u ≡ false) declared_texts (λ u e. other-text begins_ded t u e n) all_begin) (by_test (starts_with nat_eq t (codes "DED_S_")) refl n)
   where
+    all_begin : AllByRecursion (λ u. begins_ded u ≡ true) declared_texts
+    all_begin = (refl, (refl, (refl, (refl, (refl, (refl, (refl, (refl, (refl, (refl, (refl, (refl, (refl, tt)))))))))))))
+
     by_test : (b : Bool) → starts_with nat_eq t (codes "DED_S_") ≡ b → begins_ded t ≡ false → b ≡ false
     by_test false e n = refl
     by_test true e n = absurd (true≢false (sym (starts-front t (codes "DED_") (codes "S_") e) ∙ n))
@@ -77,9 +75,11 @@ original-text t h =
 -- the text of a variable
 pub variable-text : (k : ℕ) → is_added_text (variable_text k) ≡ false
 variable-text k =
-    let f : List ℕ → Bool = λ (t : List ℕ). starts_with nat_eq t (codes "DED_V") in
-    seven (variable_text k) (differs kind_text refl) (differs argument_text refl) (differs permit_index_text refl) (differs control_text refl) (differs idle_text refl) (differs never_text refl) (differs join_text refl) refl
+    none-added (variable_text k) (all_weaker (λ (u : List ℕ). starts_with nat_eq u (codes "DED_V") ≡ false) (λ u. bytes_eq (variable_text k) u ≡ false) declared_texts differs none_begins) refl
   where
+    none_begins : AllByRecursion (λ (u : List ℕ). starts_with nat_eq u (codes "DED_V") ≡ false) declared_texts
+    none_begins = (refl, (refl, (refl, (refl, (refl, (refl, (refl, (refl, (refl, (refl, (refl, (refl, (refl, tt)))))))))))))
+
     differs : (u : List ℕ) → starts_with nat_eq u (codes "DED_V") ≡ false → bytes_eq (variable_text k) u ≡ false
     differs u n = by_test (bytes_eq (variable_text k) u) refl
       where
@@ -91,8 +91,11 @@ variable-text k =
 pub marked-text : (t u : List ℕ) → begins_ded t ≡ false → is_added_text (t ++ (codes "_DED_" ++ u)) ≡ false
 marked-text t u n =
     let m : List ℕ = t ++ (codes "_DED_" ++ u) in
-    seven m (differs kind_text refl) (differs argument_text refl) (differs permit_index_text refl) (differs control_text refl) (differs idle_text refl) (differs never_text refl) (differs join_text refl) (front t n)
+    none-added m (all_weaker (λ v. has_mark v ≡ false) (λ v. bytes_eq m v ≡ false) declared_texts differs none_marked) (front t n)
   where
+    none_marked : AllByRecursion (λ v. has_mark v ≡ false) declared_texts
+    none_marked = (refl, (refl, (refl, (refl, (refl, (refl, (refl, (refl, (refl, (refl, (refl, (refl, (refl, tt)))))))))))))
+
     differs : (v : List ℕ) → has_mark v ≡ false → bytes_eq (t ++ (codes "_DED_" ++ u)) v ≡ false
     differs v k = by_test (bytes_eq (t ++ (codes "_DED_" ++ u)) v) refl
       where

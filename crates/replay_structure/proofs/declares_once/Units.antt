@@ -17,7 +17,7 @@ use Rattle.syn_event.proofs.DeclLists.{listed_back}
 use Rattle.task_model.specs.Setting.{Setting}
 use Rattle.common_lemmas.proofs.Lists.{all_front, all_back, all_joined}
 use Rattle.normal_model.specs.NormalTree.{unit_for}
-use Rattle.normal_structure.proofs.numbers.Listed.{IsOneBody}
+use Rattle.normal_laws.proofs.structure.numbers.Listed.{IsOneBody}
 use Rattle.replay_model.specs.Names.{never_text, join_text}
 use Rattle.replay_model.specs.ReplayTree.{behind_own, permit_declared, double_entry, more_entries, replay_decl}
 use Rattle.replay_model.specs.ReplayStmts.{replay_body}
@@ -27,12 +27,12 @@ use Rattle.ada_decl_rules.specs.duplicates.NamedSoFar.{object_words}
 use Rattle.ada_decl_rules.specs.duplicates.NamingsInOrder.{declared}
 use Rattle.ada_decl_rules.specs.declared.duplicates.namings_in_order.Naming.{Naming}
 use Rattle.ada_decl_rules.specs.declared.duplicates.namings_in_order.Naming.TheVariants.{Declares, Once}
-use Rattle.normal_structure.specs.once.Apart.{IsFreeOf, AreApart, AreDistinct, fixed_name, fixed_names, IsFitIn}
-use Rattle.normal_structure.specs.once.Names.{body_names, entries_names, tasks_names, inner_names, bodies_names}
-use Rattle.normal_structure.proofs.once.Once.{one-apart, one-free, apart-front, apart-back, apart-both, apart-turned, free-both, distinct-both}
-use Rattle.normal_is_legal.proofs.declares_once.DeclaredNames.{word_ids, free-words}
+use Rattle.normal_laws.specs.structure.once.Apart.{IsFreeOf, AreApart, AreDistinct, fixed_name, fixed_names, IsFitIn}
+use Rattle.normal_laws.specs.structure.once.Names.{body_names, entries_names, tasks_names, inner_names, bodies_names}
+use Rattle.normal_laws.proofs.structure.once.Once.{one-apart, one-free, apart-front, apart-back, apart-both, apart-turned, free-both, distinct-both}
+use Rattle.normal_laws.proofs.legality.declares_once.DeclaredNames.{word_ids, free-words}
 use Rattle.replay_structure.proofs.texts.Rooted.{replay-has}
-use Rattle.normal_structure.proofs.numbers.Named.{Has}
+use Rattle.normal_laws.proofs.structure.numbers.Named.{Has}
 use Rattle.replay_structure.specs.declares_once.Names.{IsKept}
 use Rattle.replay_structure.proofs.declares_once.Statements.{body-same}
 use Rattle.replay_structure.proofs.declares_once.Ids.{apart-by, IsOwn, all, id, added-apart, own-apart, double, HasDoubles, doubles-differ}

@@ -1,6 +1,7 @@
 -- Rule Duplicate refuses nothing in the replay text of a normal form whose names leave room for it.
 use Rattle.std.proofs.Common.{◌≡◌, ℕ, true, false, ◌||◌, ◌==◌, List, [], ◌∷◌, ◌++◌, map, flat_map, refl, sym, ap, ap₂, ◌∙◌, subst}
 use Rattle.std.specs.List.{AllByRecursion}
+use Rattle.std.specs.Str.{bytes_eq}
 use Rattle.std.proofs.lemmas.Bool.{or_from}
 use Rattle.std.proofs.lemmas.List.{append_assoc, append-nil}
 use Rattle.std.proofs.lemmas.Grind.{flat_map-append}
@@ -10,6 +11,7 @@ use Rattle.ada_tree.specs.declared.naming.Word.{Word}
 use Rattle.ada_tree.specs.TypeTable.{TypeTable}
 use Rattle.ada_tree.specs.PlainDecl.{PTask, PDecl, DNumber, DObject, DEnumeration, DArray, DSubtype, DException, DIntIo, DPragma, DTask, DTaskBody, decls_of}
 use Rattle.ada_tree.specs.PlainProgram.{PProgram}
+use Rattle.ada_static_rules.specs.RuleDuplicate.{is_predefined}
 use Rattle.ada_static_rules.specs.Sites.{with_words, sites}
 use Rattle.syn_event.specs.Numbering.{Numbering}
 use Rattle.syn_event.specs.DeclaredTasks.{decl_list, tasks_in}
@@ -17,9 +19,10 @@ use Rattle.task_model.specs.Setting.{Setting}
 use Rattle.control_script.specs.declared.Op.{Op}
 use Rattle.legal_programs.specs.rewritten_types.Rewriting.{names_declared}
 use Rattle.normal_model.specs.NormalTree.{main_unit, normal_tree}
-use Rattle.normal_structure.specs.types.Laws.{setting_of}
-use Rattle.normal_structure.proofs.numbers.Listed.{IsPlain, IsOneTask, IsOneBody, tasks-all, bodies-all, first-plain, firsts, vars, tasks, bodies, vars-plain, normal-list}
-use Rattle.replay_model.specs.Names.{kind_text, argument_text, index_text, control_text, idle_text}
+use Rattle.normal_laws.specs.structure.types.Laws.{setting_of}
+use Rattle.normal_laws.proofs.structure.numbers.Named.{Has}
+use Rattle.normal_laws.proofs.structure.numbers.Listed.{IsPlain, IsOneTask, IsOneBody, tasks-all, bodies-all, first-plain, firsts, vars, tasks, bodies, vars-plain, normal-list}
+use Rattle.replay_model.specs.Names.{kind_text, argument_text, index_text, control_text, idle_text, operations_text, tasks_text, kinds_text, arguments_text, indices_text, counter_text, added_texts}
 use Rattle.replay_model.specs.ReplayTree.{behind_own, permit_declared, replay_decl, last_task, replay_of, normal_setting}
 use Rattle.replay_model.specs.Controlling.{control_declared, idle_declared, control_body, idle_body}
 use Rattle.replay_structure.proofs.texts.Listed.{all-behind, normal-plain, normal-tasks, normal-bodies, more_task, added_tasks}
@@ -28,14 +31,14 @@ use Rattle.ada_decl_rules.specs.duplicates.NamedSoFar.{object_words}
 use Rattle.ada_decl_rules.specs.duplicates.NamingsInOrder.{namings_of}
 use Rattle.ada_decl_rules.specs.declared.duplicates.namings_in_order.Naming.{Naming}
 use Rattle.ada_decl_rules.specs.declared.duplicates.namings_in_order.Naming.TheVariants.{Declares, Labels, Once}
-use Rattle.normal_structure.specs.once.Once.{AllOnce}
-use Rattle.normal_structure.specs.once.Apart.{IsFreeOf, AreApart, AreDistinct, fixed_name, fixed_names, loose_names, IsFitIn, AreFit}
-use Rattle.normal_structure.specs.once.Names.{body_names, tasks_names, bodies_names}
-use Rattle.normal_structure.proofs.once.Once.{free-front, free-back, free-both, apart-back, apart-turned, distinct-front, distinct-back, distinct-apart, distinct-both}
-use Rattle.normal_structure.proofs.once.Parts.{all-fit-in, fit-in-alone, fit-in-apart}
-use Rattle.normal_structure.proofs.once.Rules.{once-fit, fit-once}
-use Rattle.normal_is_legal.proofs.declares_once.DeclaredNames.{word_ids, free-words}
-use Rattle.replay_structure.specs.declares_once.Names.{word_named, IsKept, LeavesNames}
+use Rattle.normal_laws.specs.structure.once.Once.{AllOnce}
+use Rattle.normal_laws.specs.structure.once.Apart.{IsFreeOf, AreApart, AreDistinct, fixed_name, fixed_names, loose_names, IsFitIn, AreFit}
+use Rattle.normal_laws.specs.structure.once.Names.{body_names, tasks_names, bodies_names}
+use Rattle.normal_laws.proofs.structure.once.Once.{free-front, free-back, free-both, apart-back, apart-turned, distinct-front, distinct-back, distinct-apart, distinct-both}
+use Rattle.normal_laws.proofs.structure.once.Parts.{all-fit-in, fit-in-alone, fit-in-apart}
+use Rattle.normal_laws.proofs.structure.once.Rules.{once-fit, fit-once}
+use Rattle.normal_laws.proofs.legality.declares_once.DeclaredNames.{word_ids, free-words}
+use Rattle.replay_structure.specs.declares_once.Names.{is_added_text, word_named, IsKept, LeavesNames}
 use Rattle.replay_structure.specs.declares_once.Laws.{ReplayDeclaresOnce}
 use Rattle.replay_structure.proofs.declares_once.Statements.{body-same}
 use Rattle.replay_structure.proofs.declares_once.Ids.{IsOwn, id, own-apart, new-not-predefined, HasDoubles, doubles-there}
@@ -43,7 +46,7 @@ use Rattle.replay_structure.proofs.declares_once.Grown.{IsGood, IsGrown, IsSame,
 use Rattle.replay_structure.proofs.declares_once.Plain.{plains_names, AreFresh, words-put, put-here, plains-clear, plains-put}
 use Rattle.replay_structure.proofs.declares_once.Units.{task_words, body_words, tasks-same, tasks-clear, bodies-same, bodies-clear, tasks-append, more-words, bodies-append, replayed-words}
 use Rattle.replay_structure.proofs.declares_once.Listed.{first_names, unit_names, copy_names, main_name, program-named}
-use Rattle.replay_structure.proofs.declares_once.Added.{texts-apart, permit-distinct, added-tasks-fit, added-tasks-fixed, added-bodies-fit, added-bodies-fixed}
+use Rattle.replay_structure.proofs.declares_once.Added.{texts-apart, permit-distinct, added-tasks-fit, added-tasks-fixed, control_words, added-bodies-fit, added-bodies-fixed}
 use Rattle.syn_event.proofs.DeclLists.{list_again, tasks_joined}
 use Rattle.replay_structure.proofs.checked.Whole.{bodies-mapped}
 
@@ -286,6 +289,25 @@ module _ (p : PProgram) (types : TypeTable) (numbers : Numbering) (ops : List Op
     T-kept : AllByRecursion Kept T
     T-kept = all_back Kept P T (all_front Kept (P ++ T) B (all_back Kept N (P ++ T ++ B) (all_front Kept (N ++ (P ++ T ++ B)) M kept)))
 
+    -- ---- the tables and the loop parameter of the controller
+
+    abbrev Y : List ℕ
+    Y = id q operations_text ∷ id q tasks_text ∷ id q kinds_text ∷ id q arguments_text ∷ id q indices_text ∷ id q counter_text ∷ []
+
+    inner-clear : (x : ℕ) → IsOwn q.names x → IsFreeOf Y x
+    inner-clear x o =
+        or_from (id q operations_text == x) _ (own-apart q operations_text (replay-has q operations_text refl) refl x o)
+        (or_from (id q tasks_text == x) _ (own-apart q tasks_text (replay-has q tasks_text refl) refl x o)
+        (or_from (id q kinds_text == x) _ (own-apart q kinds_text (replay-has q kinds_text refl) refl x o)
+        (or_from (id q arguments_text == x) _ (own-apart q arguments_text (replay-has q arguments_text refl) refl x o)
+        (or_from (id q indices_text == x) _ (own-apart q indices_text (replay-has q indices_text refl) refl x o)
+        (or_from (id q counter_text == x) false (own-apart q counter_text (replay-has q counter_text refl) refl x o) refl)))))
+
+    inner-fixed-clear : AreApart (front ++ back) Y
+    inner-fixed-clear =
+        subst (λ (l : List ℕ). AreApart l Y) fixed-parts
+        (apart-turned Y (names A) (clear-names Y A (all_weaker (IsKept q.names) (λ (n : Naming). IsFreeOf Y (word_named n).name.0) A (λ n k. inner-clear (word_named n).name.0 k) kept)).0)
+
     -- ---- the variables of a permit
 
     new-free : (t : List ℕ) → IsFreeOf (front ++ back) (id q t) → (c == id q t) ≡ false → (d == id q t) ≡ false → IsFreeOf F (id q t)
@@ -304,6 +326,23 @@ module _ (p : PProgram) (types : TypeTable) (numbers : Numbering) (ops : List Op
       apart = λ here h. (h.0, (h.1.0, (h.1.1.0, tt)));
       clear = λ x h. free-front (id q kind_text ∷ id q argument_text ∷ id q index_text ∷ []) (c ∷ d ∷ []) x h;
     }
+
+    inner-new : (t : List ℕ) → Has added_texts t → is_added_text t ≡ true → bytes_eq control_text t ≡ false → bytes_eq idle_text t ≡ false → IsFreeOf (front ++ back) (id q t) →
+        (is_predefined (id q t) ≡ false) × IsFreeOf F (id q t)
+    inner-new t h a n m f = (new-not-predefined q leaves.begins t (replay-has q t h) a, new-free t f (texts-apart q control_text t refl h n refl) (texts-apart q idle_text t refl h m refl))
+
+    inner-fresh : AllByRecursion (λ (w : Word). (is_predefined w.name.0 ≡ false) × IsFreeOf F w.name.0) (control_words F X g s (are-fresh s))
+    inner-fresh =
+        let free = inner-fixed-clear in (
+          inner-new operations_text refl refl refl refl free.0,
+          (
+            inner-new tasks_text refl refl refl refl free.1.0,
+            (
+              inner-new kinds_text refl refl refl refl free.1.1.0,
+              (inner-new arguments_text refl refl refl refl free.1.1.1.0, (inner-new indices_text refl refl refl refl free.1.1.1.1.0, (inner-new counter_text refl refl refl refl free.1.1.1.1.1.0, tt))),
+            ),
+          ),
+        )
 
     -- ---- the declarations of main
 
@@ -406,7 +445,7 @@ module _ (p : PProgram) (types : TypeTable) (numbers : Numbering) (ops : List Op
     B-same = bodies-same F X g are-fresh [] bs all-bodies B-good
 
     B2-fit : AllByRecursion (IsFitIn F) B2
-    B2-fit = added-bodies-fit F X g s (are-fresh s) ops held (held-free c bodies-are-clear.1.1.1.0) (held-free d bodies-are-clear.1.1.1.1.0)
+    B2-fit = added-bodies-fit F X g s (are-fresh s) ops held inner-fresh (held-free c bodies-are-clear.1.1.1.0) (held-free d bodies-are-clear.1.1.1.1.0)
 
     -- ---- what is named in the replay text
 

@@ -7,9 +7,9 @@ use Rattle.replay_structure.proofs.placed.Declared.{replay_is_placed}
 use Rattle.replay_structure.proofs.placed.Scripted.{script-some, script-literals}
 
 pub all_replays_placed : ReplayIsPlaced
-all_replays_placed g ops h some i = replay_is_placed g h ops some i
+all_replays_placed g ops h some few i = replay_is_placed g h ops some few i
 
 pub all_scripts_placed : ScriptIsPlaced
-all_scripts_placed p types numbers events h few small literals =
-    replay_is_placed (normal_setting p types numbers) h (script_of numbers events) (script-some (owner_of numbers) (length numbers.tasks) events)
+all_scripts_placed p types numbers events h few small literals short =
+    replay_is_placed (normal_setting p types numbers) h (script_of numbers events) (script-some (owner_of numbers) (length numbers.tasks) events) short
     (script-literals (owner_of numbers) (length numbers.tasks) events few small literals)

@@ -20,9 +20,8 @@ use Rattle.legal_programs.specs.asked.Asked.{AskedBody}
 use Rattle.legal_programs.specs.asked.Kinds.{place_asks, both}
 use Rattle.legal_programs.proofs.asked.Placed.{placed_asked, asked_placed}
 use Rattle.legal_programs.proofs.asked.Together.{both_asked}
-use Rattle.normal_structure.specs.placed.Placeable.{IsName}
-use Rattle.normal_structure.proofs.placed.Whole.{placed-with}
-use Rattle.normal_model.specs.Names.{task_name}
+use Rattle.normal_laws.specs.structure.placed.Placeable.{IsName}
+use Rattle.normal_laws.proofs.structure.placed.Whole.{placed-with}
 use Rattle.replay_model.specs.Names.{kind_text, argument_text, index_text, never_text, join_text, added_word}
 use Rattle.replay_model.specs.ReplayStmts.{replay_body}
 use Rattle.replay_model.specs.Controlling.{added_entry, control_declared, idle_declared, control_body, idle_body}
@@ -215,8 +214,8 @@ module _ (g : Setting) (h : IsReplayPlaceable g) where
       (omega arith, (omega arith, All-from_recursion (EveryWord r') ws (known.kind_part, (known.argument_part, (known.index_part, tt)))), (known.first 0 (omega arith), tt), tt, (omega arith, omega arith))
 
   -- the names of tasks
-  named : AllByRecursion (λ info. IsName (names' g h) (task_name g info)) g.numbers.tasks
-  named = all_weaker (λ info. IsName g.program.names (task_name g info)) (λ info. IsName (names' g h) (task_name g info)) g.numbers.tasks (λ info i. old g h (task_name g info) i) h.tasks
+  named : AllByRecursion (λ info. IsName (names' g h) info.name) g.numbers.tasks
+  named = all_weaker (λ info. IsName g.program.names info.name) (λ info. IsName (names' g h) info.name) g.numbers.tasks (λ info i. old g h info.name i) h.tasks
 
   -- ---- tasks
 
@@ -293,8 +292,8 @@ module _ (g : Setting) (h : IsReplayPlaceable g) where
 
   -- ---- the whole
 
-  pub decls-placed : (s : Span) (ops : List Op) → 1 ≤ length ops → AllByRecursion HasLiterals ops → EveryDecls r' (decls_of (replay_decls g s ops))
-  decls-placed s ops some i =
+  pub decls-placed : (s : Span) (ops : List Op) → 1 ≤ length ops → IsInteger (length ops) → AllByRecursion HasLiterals ops → EveryDecls r' (decls_of (replay_decls g s ops))
+  decls-placed s ops some short i =
       let ds : List PDecl = decl_list g.program.decls in
       let first : List PDecl = behind_own g.program.names (permit_declared g.program s) (filter (λ d. not (is_task d || is_body d)) ds) in
       let tasks : List PDecl = map (replay_decl g) (filter is_task ds) in
@@ -314,9 +313,9 @@ module _ (g : Setting) (h : IsReplayPlaceable g) where
       (tasks-placed ds all h.decls))
       (control-declared g (names' g h) known named s (last_task g.numbers) few, (idle-declared g (names' g h) known named s, tt)))
       (bodies-placed ds plain all h.decls))
-      (control-placed g (names' g h) known named s ops some i, (idle-placed g (names' g h) known named s, tt)))
+      (control-placed g (names' g h) known named s h.few_tasks ops some short i, (idle-placed g (names' g h) known named s, tt)))
 
   -- The replay text is well placed.
-  pub replay_is_placed : (ops : List Op) → 1 ≤ length ops → AllByRecursion HasLiterals ops → IsWellPlaced (replay_of g ops)
-  replay_is_placed ops some i =
-      (whole.0, order-kept g g.program.name.span ops, decls-placed g.program.name.span ops some i, body-placed 0 g.program.name.span g.program.body (omega arith) h.placed.3 h.main)
+  pub replay_is_placed : (ops : List Op) → 1 ≤ length ops → IsInteger (length ops) → AllByRecursion HasLiterals ops → IsWellPlaced (replay_of g ops)
+  replay_is_placed ops some short i =
+      (whole.0, order-kept g g.program.name.span ops, decls-placed g.program.name.span ops some short i, body-placed 0 g.program.name.span g.program.body (omega arith) h.placed.3 h.main)

@@ -1,4 +1,4 @@
--- The normal form of the example of `normal_structure: placed` is as the law asks.
+-- The normal form of the example of `normal_laws: structure/placed` is as the law asks.
 --
 -- procedure P is DED_V1 : INTEGER; task T is entry E (X : in INTEGER); end T; task body T is begin accept E (X : in INTEGER); end T; begin DED_V1 :=
 -- 1; T.E (DED_V1); end P;
@@ -10,10 +10,10 @@ use Rattle.task_model.specs.Setting.{Setting}
 use Rattle.normal_model.specs.Making.{variable}
 use Rattle.normal_model.specs.NormalTree.{main_unit}
 use Rattle.legal_programs.specs.asked.Asked.{AskedBody}
-use Rattle.normal_structure.specs.placed.Example.{nowhere, passing_set}
-use Rattle.normal_structure.proofs.placed.Names.{first-named, old-named}
-use Rattle.normal_structure.proofs.placed.Originals.{all_normal_placed}
-use Rattle.normal_structure.proofs.placed.Instance.{example_is_placeable}
+use Rattle.normal_laws.specs.structure.placed.Example.{nowhere, passing_set}
+use Rattle.normal_laws.proofs.structure.placed.Names.{first-named, old-named}
+use Rattle.normal_laws.proofs.structure.placed.Originals.{all_normal_placed}
+use Rattle.normal_laws.proofs.structure.placed.Instance.{example_is_placeable}
 use Rattle.replay_model.specs.ReplayTree.{normal_setting}
 use Rattle.replay_structure.specs.placed.Fitting.{reach, fit_asks}
 use Rattle.replay_structure.specs.placed.Laws.{IsMet}

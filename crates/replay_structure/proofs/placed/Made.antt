@@ -18,7 +18,7 @@ use Rattle.normal_model.specs.RewrittenUnit.{RewrittenUnit}
 use Rattle.normal_model.specs.Walk.{after_stmts, inside_handlers}
 use Rattle.legal_programs.specs.asked.Asked.{Asks}
 use Rattle.legal_programs.specs.asked.Kinds.{place_asks, both}
-use Rattle.normal_structure.specs.placed.Placeable.{IsName}
+use Rattle.normal_laws.specs.structure.placed.Placeable.{IsName}
 use Rattle.replay_model.specs.Names.{kind_text, argument_text, index_text}
 use Rattle.replay_model.specs.Asking.{permit_part, permit_is_kind}
 use Rattle.replay_model.specs.Serving.{permits_start}

@@ -8,8 +8,8 @@ use Rattle.ada_tree.specs.PlainExpr.{PExpr, EInteger, EName, EIndex, EAttribute,
 use Rattle.ada_tree.specs.PlainStmt.{PTarget, PArgs, PFormal, PPart, PWords, PValue, PChoice, PScheme, LWhile, LFor, PStmt, SNull, SAssign, SDelay, SExit, SRaise, SAbort, SCall, SAccept, SWait, SConditional, STimed, SPut, SPutLine, SNewLine, SGet, SIf, SCase, SBlock, SLoop}
 use Rattle.ada_tree.specs.Every.{Rules, EveryWord, EveryExpr, EveryBounds, EverySubind, EveryDrange, EveryTarget, EveryExprs, EveryArgs, EveryFormal, EveryPart, EveryText, EveryChoice, EveryScheme, EveryStmt}
 use Rattle.ada_tree.specs.WellPlaced.{well_placed}
-use Rattle.normal_structure.specs.asked.Pieces.{IsPlain}
-use Rattle.normal_structure.specs.placed.Placeable.{IsName}
+use Rattle.normal_laws.specs.structure.asked.Pieces.{IsPlain}
+use Rattle.normal_laws.specs.structure.placed.Placeable.{IsName}
 use Rattle.replay_structure.specs.placed.Fitting.{reach}
 use Rattle.legal_programs.proofs.sites.Both.{all-both}
 

@@ -8,10 +8,10 @@ use Rattle.ada_static_rules.specs.Scope.{and_then}
 use Rattle.ada_tree.specs.Lexical.{IsIdentifier}
 use Rattle.task_model.specs.Setting.{Setting}
 use Rattle.normal_model.specs.Names.{id_of}
-use Rattle.normal_structure.proofs.types.Names.{fold-begins}
-use Rattle.normal_structure.specs.placed.Placeable.{IsName}
-use Rattle.normal_structure.proofs.placed.Names.{begins-name, searched}
-use Rattle.replay_model.specs.Names.{kind_text, argument_text, index_text, control_text, go_text, done_text, hold_text, idle_text, stop_text, rest_text, never_text, join_text, double_text, added_texts, double_texts, replay_names}
+use Rattle.normal_laws.proofs.structure.types.Names.{fold-begins}
+use Rattle.normal_laws.specs.structure.placed.Placeable.{IsName}
+use Rattle.normal_laws.proofs.structure.placed.Names.{begins-name, searched}
+use Rattle.replay_model.specs.Names.{kind_text, argument_text, index_text, control_text, go_text, done_text, hold_text, idle_text, stop_text, rest_text, never_text, join_text, operations_text, tasks_text, kinds_text, arguments_text, indices_text, counter_text, double_text, added_texts, double_texts, replay_names}
 use Rattle.replay_structure.specs.placed.Placeable.{IsReplayPlaceable}
 use Rattle.replay_structure.proofs.placed.Tests.{AreAdded}
 
@@ -61,6 +61,12 @@ module _ (g : Setting) (h : IsReplayPlaceable g) where
     rest = there rest_text (refl, omega arith, refl);
     never = there never_text (refl, omega arith, refl);
     join = there join_text (refl, omega arith, refl);
+    operations = there operations_text (refl, omega arith, refl);
+    tasks = there tasks_text (refl, omega arith, refl);
+    permit_kinds = there kinds_text (refl, omega arith, refl);
+    arguments = there arguments_text (refl, omega arith, refl);
+    indices = there indices_text (refl, omega arith, refl);
+    counter = there counter_text (refl, omega arith, refl);
     double = λ t i. there (double_text t) i;
     kinds = λ k. mark-named names' k g.types.marks (first 0 (omega arith)) (marks g.types.marks h.marks);
   }

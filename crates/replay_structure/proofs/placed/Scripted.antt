@@ -1,6 +1,7 @@
--- The operations of a script have literals: tasks are known, kinds are at most 10, and the rest is that of the events. There is one operation at least.
-use Rattle.std.proofs.Common.{◌≡◌, ℕ, zero, suc, pred, ◌+◌, ◌<◌, ◌≤◌, ◌==◌, ℤ, pos, Bool, true, false, not, if◌then◌else◌, List, [], ◌∷◌, ◌++◌, length, map, refl, sym, subst, ◌∙◌, arith, length-append}
-use Rattle.std.specs.List.{AllByRecursion, range_with_len}
+-- The operations of a script have literals: tasks are known, kinds are at most 10, and the rest is that of the events. There is one operation at least,
+-- and there are at most three for each event, and one for each task and one more.
+use Rattle.std.proofs.Common.{◌≡◌, ℕ, zero, suc, pred, ◌+◌, ◌<◌, ◌≤◌, ◌==◌, ℤ, pos, Bool, true, false, not, cond, if◌then◌else◌, ◌&&◌, ◌⊎◌, inl, inr, ◌*◌, List, [], ◌∷◌, ◌++◌, length, map, refl, sym, ap, subst, ◌∙◌, arith, length-append}
+use Rattle.std.specs.List.{AllByRecursion, filter, range_with_len}
 use Rattle.std.proofs.lemmas.List.{length-set, length-map}
 use Rattle.ada_tree.specs.Lexical.{IsInteger}
 use Rattle.event_machine.specs.declared.Event.{Event}
@@ -12,10 +13,10 @@ use Rattle.common_lemmas.proofs.Lists.{all_front, all_back, all_joined, all_kept
 use Rattle.control_script.specs.Script.{open_tasks, to_close, after_abort, operations, held, script_from, script}
 use Rattle.control_script.specs.declared.Op.{Op}
 use Rattle.control_script.specs.declared.Op.TheVariants.{Go, Done, Join, Hold}
-use Rattle.normal_structure.specs.placed.Placeable.{IsSmallIndex}
+use Rattle.normal_laws.specs.structure.placed.Placeable.{IsSmallIndex}
 use Rattle.replay_model.specs.Promised.{HasLiteral}
 use Rattle.replay_structure.specs.placed.Placeable.{HasLiterals, HasSmallIndices}
-use Rattle.control_script.proofs.Writing.{as_many}
+use Rattle.control_script.proofs.Writing.{as_many, as_many_at_start}
 
 -- ---- at least one
 
@@ -44,6 +45,83 @@ script-some owner n (e ∷ events) = by_test (admits owner (known_at_start n) e)
     by_test : (b : Bool) → 1 ≤ length (if b then front ++ back else held (known_at_start n))
     by_test true = rw (length-append front back) (omega (arith, operations-some owner (known_at_start n) e))
     by_test false = omega arith
+
+-- ---- not too many
+
+filtered-few : {A : Type 0} (p : A → Bool) (xs : List A) → length (filter p xs) ≤ length xs
+filtered-few p [] = omega arith
+filtered-few p (x ∷ xs) = by_test (p x) (filtered-few p xs)
+  where
+    by_test : (b : Bool) → length (filter p xs) ≤ length xs → length (cond b (x ∷ filter p xs) (filter p xs)) ≤ suc (length xs)
+    by_test true h = omega (arith, h)
+    by_test false h = omega (arith, h)
+
+ranged-length : (first n : ℕ) → length (range_with_len first n) ≡ n
+ranged-length first zero = refl
+ranged-length first (suc n) = ap suc (ranged-length (first + 1) n)
+
+pred-below : (n : ℕ) → pred n ≤ n
+pred-below zero = omega arith
+pred-below (suc n) = omega arith
+
+-- the permits to end are no more than the tasks, and one
+ending-few : (k : Known) → length (map to_close (open_tasks k) ++ to_close 0 ∷ []) ≤ length k.parties + 1
+ending-few k =
+    let joined = length-append (map to_close (open_tasks k)) (to_close 0 ∷ []) in
+    let mapped = length-map (open_tasks k) to_close in
+    let filtered = filtered-few (λ t. not (is_closed k t)) (range_with_len 1 (pred (length k.parties))) in
+    let ranged = ranged-length 1 (pred (length k.parties)) in
+    let fewer = pred-below (length k.parties) in
+    omega (arith, joined, mapped, filtered, ranged, fewer)
+
+-- behind its end nothing is admitted
+ended-script : (owner : ℕ → ℕ) (k : Known) (events : List Event) → k.ended ≡ true → length (script_from owner k events) ≡ 0
+ended-script owner k [] h = ap (λ (b : Bool). length (if b then [] else Hold ∷ [])) h
+ended-script owner k (e ∷ events) h =
+    ap (λ (b : Bool). length (if not b && suits owner k e then operations owner k e ++ script_from owner (advanced owner k e) events else if b then [] else Hold ∷ [])) h
+
+held-few : (k : Known) → length (held k) ≤ 1
+held-few k = by_test k.ended
+  where
+    by_test : (b : Bool) → length (if b then [] else Hold ∷ []) ≤ 1
+    by_test true = omega arith
+    by_test false = omega arith
+
+-- all but those of Z are three
+operations-few : (owner : ℕ → ℕ) (k : Known) (e : Event) → (length (operations owner k e) ≤ 3) ⊎ (e ≡ Z)
+operations-few owner k (R c e i) = inl (omega arith)
+operations-few owner k (E a) = inl (omega arith)
+operations-few owner k (S a) = inl (omega arith)
+operations-few owner k (D a n) = inl (omega arith)
+operations-few owner k (C c e i) = inl (omega arith)
+operations-few owner k (T c e i) = inl (omega arith)
+operations-few owner k (F c e i) = inl (omega arith)
+operations-few owner k (X a) = inl (omega arith)
+operations-few owner k (B t x) = inl (omega arith)
+operations-few owner k Z = inr refl
+
+from-few : (owner : ℕ → ℕ) (n : ℕ) (events : List Event) (k : Known) → length k.parties ≡ n → length (script_from owner k events) ≤ 3 * length events + n + 1
+from-few owner n [] k same = let few = held-few k in omega (arith, few)
+from-few owner n (e ∷ events) k same = by_test (admits owner k e) (operations-few owner k e) (from-few owner n events (advanced owner k e) (as_many owner k e ∙ same))
+  where
+    front : List Op
+    front = operations owner k e
+
+    back : List Op
+    back = script_from owner (advanced owner k e) events
+
+    by_test : (b : Bool) → (length front ≤ 3) ⊎ (e ≡ Z) → length back ≤ 3 * length events + n + 1 → length (if b then front ++ back else held k) ≤ 3 * suc (length events) + n + 1
+    by_test false few rest = let one = held-few k in omega (arith, one)
+    by_test true (inl few) rest = let joined = length-append front back in omega (arith, joined, few, rest)
+    by_test true (inr last) rest =
+        let joined = length-append front back in
+        let ended : length back ≡ 0 = ended-script owner (advanced owner k e) events (ap (λ x. (advanced owner k x).ended) last) in
+        let few : length front ≤ length k.parties + 1 = subst (λ x. length (operations owner k x) ≤ length k.parties + 1) (sym last) (ending-few k) in
+        omega (arith, joined, ended, few, same)
+
+-- A script has at most three operations for each event, one for each task, and one more.
+pub script-few : (owner : ℕ → ℕ) (n : ℕ) (events : List Event) → length (script owner n events) ≤ 3 * length events + n + 1
+script-few owner n events = from-few owner n events (known_at_start n) (as_many_at_start n)
 
 -- ---- as many parties as before
 
@@ -86,7 +164,7 @@ module _ (owner : ℕ → ℕ) (k : Known) (few : IsInteger (length k.parties)) 
   abort-literals t x h = by_test (x == t)
     where
       by_test : (b : Bool) → HasLiterals (if b then Join t else Done t)
-      by_test true = tt
+      by_test true = h
       by_test false = h
 
   operations-literals : (e : Event) → suits owner k e ≡ true → HasSmallIndices e → AllByRecursion HasLiteral (operations owner k e) → AllByRecursion HasLiterals (operations owner k e)
@@ -100,7 +178,7 @@ module _ (owner : ℕ → ℕ) (k : Known) (few : IsInteger (length k.parties)) 
   operations-literals (C c e i) s n h = call-literals c 5 e i (free-few c (and_left (is_free k c) _ s)) (omega arith) h.0 n
   operations-literals (T c e i) s n h = call-literals c 6 e i (free-few c (and_left (is_free k c) _ s)) (omega arith) h.0 n
   operations-literals (F c e i) s n h = call-literals c 7 e i (free-few c (and_left (is_free k c) _ s)) (omega arith) h.0 n
-  operations-literals (X a) s n h = ((free-few a (and_left (is_free k a) _ s), omega arith, omega arith, omega arith), (tt, tt))
+  operations-literals (X a) s n h = let few : IsInteger a = free-few a (and_left (is_free k a) _ s) in ((few, omega arith, omega arith, omega arith), (few, tt))
   operations-literals (B t x) s n h = ((free-few t s, omega arith, h.0, omega arith), (abort-literals t x (free-few t s), tt))
   operations-literals Z s n h =
       all_joined HasLiterals (map to_close (open_tasks k)) (to_close 0 ∷ [])

@@ -12,8 +12,8 @@ use Rattle.ada_tree.specs.Lexical.{IsIdentifier, IsInteger}
 use Rattle.task_model.specs.Setting.{Setting}
 use Rattle.normal_model.specs.Ranges.{kind_of_range, kind_name, family_range}
 use Rattle.normal_model.specs.RewrittenUnit.{RewrittenUnit}
-use Rattle.normal_structure.specs.placed.Placeable.{IsName}
-use Rattle.replay_model.specs.Names.{kind_text, argument_text, index_text, control_text, go_text, done_text, hold_text, idle_text, stop_text, rest_text, never_text, join_text, double_text, added_id}
+use Rattle.normal_laws.specs.structure.placed.Placeable.{IsName}
+use Rattle.replay_model.specs.Names.{kind_text, argument_text, index_text, control_text, go_text, done_text, hold_text, idle_text, stop_text, rest_text, never_text, join_text, operations_text, tasks_text, kinds_text, arguments_text, indices_text, counter_text, double_text, added_id}
 use Rattle.replay_model.specs.Asking.{permit_is_kind, permit_is_for, permit_is_at, as_number, number_in, member_number}
 use Rattle.replay_model.specs.Waiting.{never_so, and_guard, is_shut, Pause, and_later, is_due}
 use Rattle.replay_structure.specs.placed.Fitting.{IsOperand}
@@ -34,6 +34,12 @@ pub record AreAdded (g : Setting) (names : List (List ℕ)) : Type 0 where
   pub rest : IsName names (added_id g.program rest_text)
   pub never : IsName names (added_id g.program never_text)
   pub join : IsName names (added_id g.program join_text)
+  pub operations : IsName names (added_id g.program operations_text)
+  pub tasks : IsName names (added_id g.program tasks_text)
+  pub permit_kinds : IsName names (added_id g.program kinds_text)
+  pub arguments : IsName names (added_id g.program arguments_text)
+  pub indices : IsName names (added_id g.program indices_text)
+  pub counter : IsName names (added_id g.program counter_text)
   pub double : (t : List ℕ) → IsIdentifier (double_text t) → IsName names (added_id g.program (double_text t))
   pub kinds : (k : ℕ) → IsName names (kind_name g.types k)
 

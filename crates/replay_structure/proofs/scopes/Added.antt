@@ -7,9 +7,9 @@ use Rattle.ada_tree.specs.declared.statements.ParMode.TheVariants.{Give}
 use Rattle.ada_tree.specs.PlainProgram.{PProgram}
 use Rattle.ada_static_rules.specs.Scope.{Scope, Range, FormalPart, single, EntryPart, Thing, SingleTask, integer_kind, scalar_kind, meaning, entry_named}
 use Rattle.ada_static_rules.specs.Declaring.{with_name, formal_parts, entry_part, after_decl}
-use Rattle.normal_structure.specs.typed.ScopeOf.{MeansInteger}
-use Rattle.normal_structure.proofs.typed.Literals.{integer-marked}
-use Rattle.normal_structure.proofs.typed.Scopes.{meaning-more}
+use Rattle.normal_laws.specs.structure.typed.ScopeOf.{MeansInteger}
+use Rattle.normal_laws.proofs.structure.typed.Literals.{integer-marked}
+use Rattle.normal_laws.proofs.structure.typed.Scopes.{meaning-more}
 use Rattle.replay_model.specs.Names.{kind_text, argument_text, index_text, control_text, go_text, done_text, hold_text, idle_text, stop_text, rest_text, added_id, added_word}
 use Rattle.replay_model.specs.Controlling.{added_entry, all_tasks, permit_formals, control_declared, idle_declared}
 use Rattle.replay_structure.specs.typed.ScopeOf.{HasLists, permit_parts, IsControl}
@@ -17,17 +17,13 @@ use Rattle.replay_structure.specs.typed.Controller.{IsIdler}
 use Rattle.replay_structure.specs.scopes.Form.{AreEntriesApart}
 
 -- the controller with all its entries
-pub record IsControlling (q : PProgram) (n : ℕ) (d : Scope) : Type 0 where
+pub record IsControlling (q : PProgram) (d : Scope) : Type 0 where
   pub seen : IsControl q d
-  pub first : seen.range.first ≡ pos 0
-  pub last : seen.range.last ≡ pos n
   pub hold : HasLists (entry_named seen.entries (added_id q hold_text)) single []
 
-pub controlling-moved : (q : PProgram) (n : ℕ) (d d' : Scope) → meaning d' (added_id q control_text) ≡ meaning d (added_id q control_text) → IsControlling q n d → IsControlling q n d'
-controlling-moved q n d d' e h = record {
+pub controlling-moved : (q : PProgram) (d d' : Scope) → meaning d' (added_id q control_text) ≡ meaning d (added_id q control_text) → IsControlling q d → IsControlling q d'
+controlling-moved q d d' e h = record {
   seen = record { entries = h.seen.entries; means = e ∙ h.seen.means; range = h.seen.range; numbers = h.seen.numbers; go = h.seen.go; done = h.seen.done };
-  first = h.first;
-  last = h.last;
   hold = h.hold;
 }
 
@@ -68,7 +64,7 @@ module _ (q : PProgram) (apart : AreEntriesApart q) (d : Scope) (int : MeansInte
   tasks n = record { kind = integer_kind; first = pos 0; last = pos n }
 
   -- The controller behind its declaration.
-  pub control-seen : (n : ℕ) → IsControlling q n (after_decl d (control_declared q s n))
+  pub control-seen : (n : ℕ) → IsControlling q (after_decl d (control_declared q s n))
   control-seen n = record {
     seen = record {
       entries = go n ∷ done n ∷ hold ∷ [];
@@ -83,8 +79,6 @@ module _ (q : PProgram) (apart : AreEntriesApart q) (d : Scope) (int : MeansInte
         formals_are = refl;
       };
     };
-    first = refl;
-    last = refl;
     hold = record {
       its = hold;
       is =

@@ -17,7 +17,7 @@ use Rattle.legal_programs.specs.asked.Kinds.{place_asks, type_asks, no_asks, bot
 use Rattle.legal_programs.proofs.asked.Placed.{placed_asked}
 use Rattle.legal_programs.proofs.asked.Typed.{typed_asked}
 use Rattle.legal_programs.proofs.asked.Together.{both_asked}
-use Rattle.normal_structure.specs.checked.Around.{own_rules}
+use Rattle.normal_laws.specs.structure.checked.Around.{own_rules}
 use Rattle.legal_programs.specs.alike_scopes.Laws.{IsMetBut}
 use Rattle.replay_structure.specs.typed.ScopeOf.{IsSingle, AreInner, IsInnerScheme, has_accept, with_scopes, form_asks}
 use Rattle.replay_structure.proofs.scopes.Weaker.{AsksLess, asked_less}

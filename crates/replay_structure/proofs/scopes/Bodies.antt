@@ -19,7 +19,7 @@ use Rattle.legal_programs.specs.rewritten_types.Rewriting.{IsAdded}
 use Rattle.legal_programs.specs.alike_scopes.Alike.{SameNames}
 use Rattle.legal_programs.specs.alike_scopes.Laws.{IsMetBut}
 use Rattle.legal_programs.proofs.alike_scopes.Inner.{own-object-main}
-use Rattle.normal_structure.proofs.typed.Variables.{AllMetBut}
+use Rattle.normal_laws.proofs.structure.typed.Variables.{AllMetBut}
 use Rattle.replay_model.specs.Names.{control_text, idle_text, added_id}
 use Rattle.replay_model.specs.ReplayTree.{is_added_object, permit_declared, behind_own, replay_decl}
 use Rattle.replay_model.specs.ReplayStmts.{replay_body}
@@ -35,7 +35,7 @@ use Rattle.replay_structure.proofs.scopes.Scopes.{HasOwn, body-own, body-scope}
 use Rattle.replay_structure.proofs.scopes.Objects.{object-more}
 use Rattle.ada_static_rules.proofs.found_twice.Declared.{object_own}
 use Rattle.syn_event.proofs.DeclLists.{list_again}
-use Rattle.normal_structure.proofs.typed.Places.{gives-met}
+use Rattle.normal_laws.proofs.structure.typed.Places.{gives-met}
 
 -- ---- objects
 

@@ -30,22 +30,26 @@ use Rattle.legal_programs.specs.rewritten_types.Agreement.{IsScalar}
 use Rattle.legal_programs.proofs.rewritten_types.Owning.{whole-first}
 use Rattle.normal_model.specs.Ranges.{kind_name}
 use Rattle.normal_model.specs.NormalTree.{main_unit, unit_for}
-use Rattle.normal_structure.specs.checked.Around.{own_rules}
+use Rattle.normal_laws.specs.structure.checked.Around.{own_rules}
 use Rattle.legal_programs.specs.asked.Asked.{AskedBody}
 use Rattle.legal_programs.specs.alike_scopes.Alike.{no_thing, a_task, no_values, SameNames}
 use Rattle.legal_programs.specs.alike_scopes.Laws.{IsMetBut}
 use Rattle.legal_programs.proofs.alike_scopes.Tables.{types-self}
 use Rattle.legal_programs.proofs.alike_scopes.Examples.{Self, meant, all_self}
-use Rattle.normal_structure.proofs.typed.Places.{met-declares}
-use Rattle.normal_structure.proofs.typed.Scopes.{IsNoTask, not-called}
+use Rattle.normal_laws.proofs.structure.typed.Places.{met-declares}
+use Rattle.normal_laws.proofs.structure.typed.Scopes.{IsNoTask, not-called}
+use Rattle.replay_model.specs.declared.tables.columns.Column.{Column}
+use Rattle.replay_model.specs.declared.tables.columns.Column.TheVariants.{Operation, Task, Kind, Argument, Index}
 use Rattle.replay_model.specs.Names.{kind_text, argument_text, index_text, added_id}
+use Rattle.replay_model.specs.tables.Columns.{table_name}
+use Rattle.replay_model.specs.Controlling.{control_ids}
 use Rattle.replay_model.specs.ReplayTree.{replay_of}
 use Rattle.replay_structure.specs.typed.Controller.{IsInteger}
 use Rattle.replay_structure.specs.typed.ScopeOf.{IsEntryOf, form_asks}
 use Rattle.replay_structure.specs.scopes.More.{is_single, AreDoubled, IsReady}
 use Rattle.replay_structure.specs.scopes.Form.{AreNamesApart, AreAddedNames, IsUnitForm, IsBodyForm, IsForm}
 use Rattle.replay_structure.proofs.scopes.Whole.{text-met}
-use Rattle.normal_structure.proofs.placed.Made.{among}
+use Rattle.normal_laws.proofs.structure.placed.Made.{among}
 
 -- ---- the program
 
@@ -117,11 +121,19 @@ kinds-old j = by_tests (0 == j) (1 == j)
     by_tests false true = refl
     by_tests false false = refl
 
+tables-new : (column : Column) → old (table_name (control_ids q) column).0 ≡ false
+tables-new Operation = refl
+tables-new Task = refl
+tables-new Kind = refl
+tables-new Argument = refl
+tables-new Index = refl
+
 names : AreNamesApart g old inner
 names = record {
   outer = record { kind = refl; argument = refl; index = refl; control = refl; idle = refl; falses = refl };
   entries = record { never = refl; join = refl; other = refl };
   permits = record { kind = refl; argument = refl; index = refl };
+  tables = record { tables = tables-new; counter = refl };
   zero = refl;
   falses = refl;
   kinds = kinds-old;
@@ -346,7 +358,9 @@ form = record {
   tasking = refl;
   form = main-form;
   asked = main-asked;
-  ops_form = ((omega arith, refl), (omega arith, ((refl, (the_part ∷ [], refl)), (tt, tt))));
+  ops_form = ((omega arith, omega arith, omega arith, omega arith), (omega arith, (omega arith, (tt, tt))));
+  few_tasks = omega arith;
+  single = ((refl, (the_part ∷ [], refl)), tt);
 }
 
 -- So nothing is refused in the replay text of this program with these operations.

@@ -14,19 +14,22 @@ use Rattle.task_model.specs.Setting.{Setting}
 use Rattle.control_script.specs.declared.Op.{Op}
 use Rattle.control_script.specs.declared.Op.TheVariants.{Go, Done, Join, Hold}
 use Rattle.normal_model.specs.Names.{task_name_at}
+use Rattle.syn_event.specs.declared.numbering.TaskInfo.{TaskInfo}
 use Rattle.legal_programs.specs.rewritten_types.Rewriting.{IsNew}
 use Rattle.legal_programs.specs.alike_scopes.Alike.{no_values, SameNames}
 use Rattle.legal_programs.specs.alike_scopes.Laws.{IsMetBut}
 use Rattle.legal_programs.proofs.alike_scopes.Naming as naming
-use Rattle.normal_structure.proofs.typed.Scopes.{differ}
-use Rattle.normal_structure.proofs.typed.Variables.{AllMetBut}
-use Rattle.replay_model.specs.Names.{kind_text, argument_text, index_text, added_id}
+use Rattle.normal_laws.proofs.structure.typed.Scopes.{differ}
+use Rattle.normal_laws.proofs.structure.typed.Variables.{AllMetBut}
+use Rattle.replay_model.specs.Names.{kind_text, argument_text, index_text, counter_text, added_id}
+use Rattle.replay_model.specs.tables.Columns.{table_name}
+use Rattle.replay_model.specs.Controlling.{control_ids}
 use Rattle.replay_model.specs.ReplayTree.{is_added_object, permit_declared, behind_own, replay_decl}
 use Rattle.replay_structure.specs.typed.ScopeOf.{IsControl, IsIdle}
-use Rattle.replay_structure.specs.typed.Controller.{IsWritable}
+use Rattle.replay_structure.specs.typed.Controller.{IsOutside, IsJoinable, IsAwaited}
 use Rattle.replay_structure.proofs.typed.Declared.{permit-met, doubled-met}
 use Rattle.replay_structure.specs.scopes.More.{is_single, IsGrown, stays, doubled, IsMore, IsReady, HasPermit}
-use Rattle.replay_structure.specs.scopes.Form.{AreNamesApart, IsVariableOf, IsTaskOf, IsEveryTask, AllAlong, BodyForms, MainAlong, IsOpForm}
+use Rattle.replay_structure.specs.scopes.Form.{AreNamesApart, IsVariableOf, IsTaskOf, IsEveryTask, AllAlong, BodyForms, MainAlong, IsSingleTask}
 use Rattle.replay_structure.proofs.scopes.More.{more-alike}
 use Rattle.replay_structure.proofs.scopes.Doubles.{task-both}
 use Rattle.replay_structure.proofs.scopes.Permit.{integer-there, permit-more, permit-there, only, IsApart, number-decls}
@@ -214,18 +217,19 @@ module _ (g : Setting) (old inner : ℕ → Bool) (names : AreNamesApart g old i
   bodies-sites (DPragma y s ∷ xs) c d h more control idle = absurd h
   bodies-sites (DTask t s ∷ xs) c d h more control idle = absurd h
 
-  -- ---- operations
+  -- ---- what the controller's body sees
 
-  pub writable : (n : ℕ) (c d : Scope) → IsMore q old c d → (op : Op) → IsOpForm g old n c op → IsWritable g n d op
-  writable n c d more (Go t kind arg index) h = h
-  writable n c d more (Done t) h = h
-  writable n c d more Hold h = tt
-  writable n c d more (Join t) h = by_grown (more.things (task_name_at g t) h.0)
+  -- an old name is none of its own
+  pub outside-old : (id : NameId) → old id.0 ≡ true → IsOutside q id
+  outside-old id o = record {
+    tables = λ column. differ old (table_name (control_ids q) column).0 id.0 false true (names.tables.tables column) o (λ p. true≢false (sym p));
+    counter = differ old (added_id q counter_text).0 id.0 false true names.tables.counter o (λ p. true≢false (sym p));
+  }
+
+  -- a task that means a single one can be waited for
+  pub awaited : (c d : Scope) → IsMore q old c d → (info : TaskInfo) → IsSingleTask old c info → IsAwaited q d info
+  awaited c d more info h = record { joinable = by_grown (more.things info.name h.0); outside = outside-old info.name h.0 }
     where
-      by_grown : IsGrown q old (meaning c (task_name_at g t)) (meaning d (task_name_at g t)) → IsWritable g n d (Join t)
+      by_grown : IsGrown q old (meaning c info.name) (meaning d info.name) → IsJoinable q d info.name
       by_grown (stays e k) = absurd (true≢false (sym (ap is_single h.1.1) ∙ k))
       by_grown (doubled es e i) = record { entries = i.doubles.more; means = i.doubles.means; join = i.join }
-
-  pub writables : (n : ℕ) (c d : Scope) → IsMore q old c d → (ops : List Op) → AllByRecursion (IsOpForm g old n c) ops → AllByRecursion (IsWritable g n d) ops
-  writables n c d more [] h = tt
-  writables n c d more (op ∷ ops) h = (writable n c d more op h.0, writables n c d more ops h.1)

@@ -11,7 +11,7 @@ use Rattle.ada_static_rules.specs.Declaring.{with_name, with_names, with_types, 
 use Rattle.legal_programs.specs.rewritten_types.Rewriting.{IsNew}
 use Rattle.legal_programs.specs.alike_scopes.Alike.{a_task, SameTypes, SameThing, no_values, SameNames, Alike}
 use Rattle.legal_programs.specs.alike_scopes.Old.{IsOldShape}
-use Rattle.normal_structure.proofs.typed.Scopes.{differ, meaning-more}
+use Rattle.normal_laws.proofs.structure.typed.Scopes.{differ, meaning-more}
 use Rattle.replay_structure.specs.scopes.More.{is_single, IsGrown, stays, doubled, IsMore}
 use Rattle.replay_structure.proofs.scopes.Same.{declared-same}
 

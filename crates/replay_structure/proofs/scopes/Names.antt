@@ -6,20 +6,26 @@ use Rattle.std.proofs.lemmas.Bool.{ltb-true, lt-ltb}
 use Rattle.std.proofs.lemmas.Slice.Eq.{bytes_eq-Decides}
 use Rattle.common_lemmas.proofs.Truth.{and_left}
 use Rattle.common_lemmas.proofs.Numbers.{equal_is}
-use Rattle.common_lemmas.proofs.Lists.{element_at, all_joined, texts_differ}
+use Rattle.common_lemmas.proofs.Lists.{element_at, all_joined, all_weaker, texts_differ}
 use Rattle.ada_tree.specs.declared.naming.NameId.{NameId}
 use Rattle.ada_tree.specs.PlainDecl.{PEntry, PTask}
 use Rattle.ada_tree.specs.PlainProgram.{PProgram}
 use Rattle.syn_event.specs.DeclaredTasks.{text_of, tasks_of}
-use Rattle.normal_structure.proofs.numbers.Named.{Has, has-folded, has-back, text-there, text-longer}
-use Rattle.replay_model.specs.Names.{kind_text, argument_text, index_text, control_text, go_text, done_text, hold_text, idle_text, stop_text, rest_text, never_text, join_text, added_texts, double_text, double_texts, replay_names, added_id}
+use Rattle.normal_laws.proofs.structure.numbers.Named.{Has, has-folded, has-back, text-there, text-longer}
+use Rattle.replay_model.specs.declared.tables.columns.Column.{Column}
+use Rattle.replay_model.specs.declared.tables.columns.Column.TheVariants.{Operation, Task, Kind, Argument, Index}
+use Rattle.replay_model.specs.tables.Columns.{table_name}
+use Rattle.replay_model.specs.Controlling.{control_ids}
+use Rattle.replay_model.specs.Names.{kind_text, argument_text, index_text, control_text, go_text, done_text, hold_text, idle_text, stop_text, rest_text, never_text, join_text, operations_text, tasks_text, kinds_text, arguments_text, indices_text, counter_text, added_texts, double_text, double_texts, replay_names, added_id}
 use Rattle.replay_structure.proofs.texts.Rooted.{replay-begins, replay-has, ids-apart}
 use Rattle.replay_structure.proofs.checked.Names.{each-flat, IsDoubled, doubles-named}
 use Rattle.replay_structure.specs.typed.ScopeOf.{double_id}
-use Rattle.replay_structure.specs.scopes.More.{AreDoubled, AreEntriesNew, ArePermitsNew}
+use Rattle.replay_structure.specs.scopes.More.{AreDoubled, AreEntriesNew, ArePermitsNew, AreTablesNew}
 use Rattle.replay_structure.specs.scopes.Form.{IsOtherThanPermit, AreEntriesApart}
+use Rattle.replay_structure.specs.declares_once.Names.{declared_texts}
 use Rattle.replay_structure.specs.scopes.Names.{new_texts, old_name}
-use Rattle.normal_structure.proofs.placed.Made.{among}
+use Rattle.replay_structure.proofs.declares_once.Texts.{none-equal}
+use Rattle.normal_laws.proofs.structure.placed.Made.{among}
 
 module _ (q : PProgram) where
   -- a new text has a new id
@@ -45,6 +51,16 @@ module _ (q : PProgram) where
     argument = new-id argument_text refl (replay-has q argument_text refl);
     index = new-id index_text refl (replay-has q index_text refl);
   }
+
+  pub tables-new : AreTablesNew q (old_name q)
+  tables-new = record { tables = by_column; counter = new-id counter_text refl (replay-has q counter_text refl) }
+    where
+      by_column : (column : Column) → old_name q (table_name (control_ids q) column).0 ≡ false
+      by_column Operation = new-id operations_text refl (replay-has q operations_text refl)
+      by_column Task = new-id tasks_text refl (replay-has q tasks_text refl)
+      by_column Kind = new-id kinds_text refl (replay-has q kinds_text refl)
+      by_column Argument = new-id arguments_text refl (replay-has q arguments_text refl)
+      by_column Index = new-id indices_text refl (replay-has q indices_text refl)
 
   pub control-new : old_name q (added_id q control_text).0 ≡ false
   control-new = new-id control_text refl (replay-has q control_text refl)
@@ -86,7 +102,7 @@ module _ (q : PProgram) where
   doubles-new : AllByRecursion (λ (t : PTask). AllByRecursion IsDoubleNew t.entries) (tasks_of q)
   doubles-new =
       each-flat (λ (t : PTask). t.entries) (λ e. double_text (text_of q.names e.name.name)) (λ t. old_name q (added_id q t).0 ≡ false) (tasks_of q)
-      (λ t h. new-id t (has-back (kind_text ∷ argument_text ∷ index_text ∷ control_text ∷ idle_text ∷ never_text ∷ join_text ∷ []) (flat_map (double_texts q.names) (tasks_of q)) t h)
+      (λ t h. new-id t (has-back declared_texts (flat_map (double_texts q.names) (tasks_of q)) t h)
       (has-folded (added_texts ++ flat_map (double_texts q.names) (tasks_of q)) q.names t (has-back added_texts (flat_map (double_texts q.names) (tasks_of q)) t h)))
 
   abbrev rest-of : List ℕ → List ℕ
@@ -148,11 +164,6 @@ module _ (q : PProgram) where
 -- ---- old names
 
 module _ (q : PProgram) where
-  -- what no text of a list is compared as
-  none-of : (t : List ℕ) (us : List (List ℕ)) → AllByRecursion (λ u. bytes_eq t u ≡ false) us → list_any (bytes_eq t) us ≡ false
-  none-of t [] h = refl
-  none-of t (u ∷ us) h = ap (λ b. b || list_any (bytes_eq t) us) h.0 ∙ none-of t us h.1
-
   -- what holds of each double holds of each text of them
   of-doubles : (P : List ℕ → Type 0) → ((a : List ℕ) → P (double_text a)) → (ts : List PTask) → AllByRecursion P (flat_map (double_texts q.names) ts)
   of-doubles P h [] = tt
@@ -163,7 +174,7 @@ module _ (q : PProgram) where
       of-entries (e ∷ es) = (h (text_of q.names e.name.name), of-entries es)
 
   is-old : (id : NameId) → id.0 < length q.names → AllByRecursion (λ u. bytes_eq (text_of q.names id) u ≡ false) (new_texts q) → old_name q id.0 ≡ true
-  is-old id within h = ap₂ (λ a b. a && not b) (lt-ltb id.0 (length q.names) within) (none-of (text_of q.names id) (new_texts q) h)
+  is-old id within h = ap₂ (λ a b. a && not b) (lt-ltb id.0 (length q.names) within) (none-equal (text_of q.names id) (new_texts q) h)
 
   -- a text that begins otherwise is another
   otherwise : (t u : List ℕ) → starts_with nat_eq t (codes "DED_") ≡ false → starts_with nat_eq u (codes "DED_") ≡ true → bytes_eq t u ≡ false
@@ -175,15 +186,16 @@ module _ (q : PProgram) where
 
   -- a name is old whose text is none that P holds of, where it holds of each new text
   old-by : (id : NameId) → id.0 < length q.names → (P : List ℕ → Type 0) → ((u : List ℕ) → P u → bytes_eq (text_of q.names id) u ≡ false) →
-      P kind_text → P argument_text → P index_text → P control_text → P idle_text → P never_text → P join_text → ((a : List ℕ) → P (double_text a)) → old_name q id.0 ≡ true
-  old-by id within P o kind argument index control idle never join double =
+      AllByRecursion P declared_texts → ((a : List ℕ) → P (double_text a)) → old_name q id.0 ≡ true
+  old-by id within P o declared double =
+      let differs : List ℕ → Type 0 = λ u. bytes_eq (text_of q.names id) u ≡ false in
       is-old id within
-      (o kind_text kind, (o argument_text argument, (o index_text index, (o control_text control, (o idle_text idle, (o never_text never, (o join_text join, of-doubles (λ u. bytes_eq (text_of q.names id) u ≡ false) (λ a. o (double_text a) (double a)) (tasks_of q))))))))
+      (all_joined differs declared_texts (flat_map (double_texts q.names) (tasks_of q)) (all_weaker P differs declared_texts o declared) (of-doubles differs (λ a. o (double_text a) (double a)) (tasks_of q)))
 
   -- A name that does not begin with DED_ is old.
   pub plain-old : (id : NameId) → id.0 < length q.names → starts_with nat_eq (text_of q.names id) (codes "DED_") ≡ false → old_name q id.0 ≡ true
-  plain-old id within e = old-by id within (λ u. starts_with nat_eq u (codes "DED_") ≡ true) (λ u f. otherwise (text_of q.names id) u e f) refl refl refl refl refl refl refl (λ a. refl)
+  plain-old id within e = old-by id within (λ u. starts_with nat_eq u (codes "DED_") ≡ true) (λ u f. otherwise (text_of q.names id) u e f) (refl, (refl, (refl, (refl, (refl, (refl, (refl, (refl, (refl, (refl, (refl, (refl, (refl, tt))))))))))))) (λ a. refl)
 
   -- So is that of a variable of the normal form, DED_V and a number.
   pub variable-old : (id : NameId) (x : List ℕ) → id.0 < length q.names → text_of q.names id ≡ codes "DED_V" ++ x → old_name q id.0 ≡ true
-  variable-old id x within e = old-by id within (λ u. bytes_eq (codes "DED_V" ++ x) u ≡ false) (λ u f. ap (λ v. bytes_eq v u) e ∙ f) refl refl refl refl refl refl refl (λ a. refl)
+  variable-old id x within e = old-by id within (λ u. bytes_eq (codes "DED_V" ++ x) u ≡ false) (λ u f. ap (λ v. bytes_eq v u) e ∙ f) (refl, (refl, (refl, (refl, (refl, (refl, (refl, (refl, (refl, (refl, (refl, (refl, (refl, tt))))))))))))) (λ a. refl)

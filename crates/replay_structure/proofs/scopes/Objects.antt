@@ -16,8 +16,8 @@ use Rattle.ada_static_rules.specs.RuleMismatch.{is_allowed}
 use Rattle.legal_programs.specs.alike_scopes.Alike.{SameNames, Alike}
 use Rattle.legal_programs.specs.alike_scopes.Old.{IsOldExpr, IsOldBounds, IsOldSubind, IsOldShape}
 use Rattle.legal_programs.specs.alike_scopes.Laws.{IsMetBut}
-use Rattle.normal_structure.proofs.typed.Variables.{AllMetBut, words-met}
-use Rattle.normal_structure.proofs.typed.Stays.{stays, expr-stays, static-stays, constraint-stays, drange-stays}
+use Rattle.normal_laws.proofs.structure.typed.Variables.{AllMetBut, words-met}
+use Rattle.normal_laws.proofs.structure.typed.Stays.{stays, expr-stays, static-stays, constraint-stays, drange-stays}
 use Rattle.replay_structure.specs.scopes.More.{IsGrown, stays as same_thing, doubled, IsMore}
 use Rattle.replay_structure.specs.scopes.Form.{IsOldInit}
 use Rattle.replay_structure.proofs.scopes.Same.{marking-same, declared-same}

@@ -12,7 +12,7 @@ use Rattle.legal_programs.specs.asked.Asked.{AskedBody}
 use Rattle.legal_programs.specs.asked.Kinds.{type_asks}
 use Rattle.legal_programs.proofs.asked.Typed.{typed_asked}
 use Rattle.legal_programs.specs.alike_scopes.Laws.{IsMetBut}
-use Rattle.normal_structure.proofs.typed.Variables.{AllMetBut}
+use Rattle.normal_laws.proofs.structure.typed.Variables.{AllMetBut}
 use Rattle.replay_model.specs.ReplayTree.{is_task, is_body}
 use Rattle.replay_structure.specs.scopes.Form.{AllAlong, first, varied, tasked, last}
 use Rattle.ada_static_rules.proofs.found_twice.Declared.{decls_joined}

@@ -19,7 +19,7 @@ use Rattle.legal_programs.proofs.rewritten_types.Keeping.{keeps-self, keeps-on}
 use Rattle.legal_programs.proofs.rewritten_types.Adding.{keeps-objects, keeps-decl}
 use Rattle.legal_programs.proofs.alike_scopes.Tables.{value-kept}
 use Rattle.legal_programs.proofs.types.GoodScopes.{IsIn, names-new, names-kept}
-use Rattle.normal_structure.proofs.typed.Scopes.{meaning-more}
+use Rattle.normal_laws.proofs.structure.typed.Scopes.{meaning-more}
 use Rattle.replay_model.specs.Names.{kind_text, argument_text, index_text, added_id, added_word}
 use Rattle.replay_model.specs.ReplayTree.{permit_declared}
 use Rattle.replay_structure.specs.typed.ScopeOf.{IsNumber}
@@ -121,6 +121,22 @@ number-step d d' id e k v = record {
   first = v.first;
   last = v.last;
   changes = value-kept (only id) d.types d'.types k id (eq-eqb id.0 id.0 refl) ∙ v.changes;
+}
+
+-- INTEGER is what it was
+pub integer-step : (d d' : Scope) → meaning d' (record { 0 = 0 }) ≡ meaning d (record { 0 = 0 }) → Keeps (only (record { 0 = 0 })) d.types d'.types → IsInteger d → IsInteger d'
+integer-step d d' e k int = record {
+  its = record {
+    place = int.its.place;
+    mark = int.its.mark;
+    means = e ∙ int.its.means;
+    there = k.grows.mark int.its.place int.its.mark int.its.there;
+    kind = int.its.kind;
+    scalar = (int.its.scalar.0, k.kinds int.its.mark.kind ∙ int.its.scalar.1);
+    named = k.marks (record { 0 = 0 }) refl ∙ int.its.named;
+    first = int.its.first;
+  };
+  last = int.last;
 }
 
 -- an object of other names in a body

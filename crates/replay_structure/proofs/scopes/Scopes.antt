@@ -41,7 +41,7 @@ module _ (u : RewrittenUnit) (old inner : ℕ → Bool) (kinds_old : (j : ℕ) �
 
     entry-there : (e : ℕ) (fam : Family) → IsEntryOf g inner c e fam → IsEntryOf g inner d e fam
     entry-there e single h = h
-    entry-there e (family range) h = record { written = h.written; is = h.is; counted = counted-there g.types kinds_old _ range.kind h.counted }
+    entry-there e (family range) h = record { written = h.written; flag = h.flag; is = h.is; counted = counted-there g.types kinds_old _ range.kind h.counted }
     entry-there e unclear h = h
 
     falses-there : meaning c (record { 0 = false_name }) ≡ Some (Literal truth_kind) → meaning d (record { 0 = false_name }) ≡ Some (Literal truth_kind)

@@ -14,7 +14,7 @@ use Rattle.task_model.specs.Setting.{Setting}
 use Rattle.legal_programs.specs.rewritten_types.Rewriting.{IsNew, IsAdded}
 use Rattle.legal_programs.proofs.rewritten_types.Keeping.{keeps-self}
 use Rattle.legal_programs.proofs.alike_scopes.Inner.{own-object-main}
-use Rattle.normal_structure.proofs.typed.Scopes.{differ}
+use Rattle.normal_laws.proofs.structure.typed.Scopes.{differ}
 use Rattle.replay_model.specs.Names.{kind_text, argument_text, index_text, added_id}
 use Rattle.replay_model.specs.ReplayTree.{is_added_object, permit_declared, behind_own, replay_decl}
 use Rattle.replay_structure.specs.scopes.More.{AreEntriesNew, IsMore, ArePermitsNew, IsReady, HasPermit}
@@ -140,13 +140,10 @@ module _ (q : PProgram) (old : ℕ → Bool) where
   variables-both [] c d o m = m
   variables-both (x ∷ xs) c d o m = variables-both xs (after_decl c x) (after_decl d x) o.1 (variable-both x c d o.0 m)
 
-  -- ---- tasks and bodies that are added
+  -- ---- tasks that are added
 
   pub task-added : (t : PTask) (s : Span) (c d : Scope) → IsNew old t.name → IsMore q old c d → IsMore q old c (after_decl d (DTask t s))
   task-added t s c d n m = name-added q old _ t.name c d n m
-
-  pub body-added : (w : Word) (its : PBody) (s : Span) (c d : Scope) → IsMore q old c d → IsMore q old c (after_decl d (DTaskBody w no_decl its s))
-  body-added w its s c d m = record { types = m.types; main = m.main; things = m.things }
 
 -- ---- tasks and bodies of the normal form
 

@@ -1,55 +1,65 @@
 -- All places of a replay text meet the static rules 1 and 3 to 12.
-use Rattle.std.proofs.Common.{◌≡◌, ℕ, ◌==◌, Bool, true, false, List, [], ◌∷◌, ◌++◌, map, filter, Some, refl, sym, ap, subst, ◌∙◌, true≢false, arith}
+use Rattle.std.proofs.Common.{◌≡◌, ℕ, ◌==◌, Bool, true, false, List, [], ◌∷◌, ◌++◌, map, drop, Some, refl, sym, ap, subst, ◌∙◌, arith}
 use Rattle.std.specs.List.{AllByRecursion, filter}
-use Rattle.common_lemmas.proofs.Lists.{all_joined}
+use Rattle.common_lemmas.proofs.Lists.{all_joined, all_weaker}
 use Rattle.common_lemmas.proofs.Numbers.{unequal_turned}
 use Rattle.ada_tree.specs.declared.naming.NameId.{NameId}
 use Rattle.ada_tree.specs.declared.naming.Span.{Span}
-use Rattle.ada_tree.specs.PlainDecl.{PDecl, DTask, DTaskBody, no_decl, decls_of}
+use Rattle.ada_tree.specs.PlainDecl.{PDecl, DTask, DTaskBody, decls_of}
 use Rattle.ada_tree.specs.PlainProgram.{PProgram}
 use Rattle.ada_static_rules.specs.Scope.{Scope, AnException, meaning, entry_named}
-use Rattle.ada_static_rules.specs.Declaring.{before_all, first_scope, inner_scope, after_decl, after_decls}
+use Rattle.ada_static_rules.specs.Declaring.{before_all, first_scope, inner_scope, in_body, after_decl, after_decls}
 use Rattle.ada_static_rules.specs.Sites.{names_sites, decls_sites, body_sites, sites}
 use Rattle.syn_event.specs.DeclaredTasks.{decl_list}
 use Rattle.task_model.specs.Setting.{Setting}
 use Rattle.control_script.specs.declared.Op.{Op}
 use Rattle.normal_model.specs.NormalTree.{main_unit}
+use Rattle.legal_programs.specs.alike_scopes.Alike.{Alike}
 use Rattle.legal_programs.specs.alike_scopes.Laws.{IsMetBut}
 use Rattle.legal_programs.specs.rewritten_types.Rewriting.{IsNew}
+use Rattle.legal_programs.specs.rewritten_types.Agreement.{Keeps}
 use Rattle.legal_programs.proofs.rewritten_types.Keeping.{keeps-self}
-use Rattle.normal_structure.proofs.typed.Scopes.{differ}
-use Rattle.normal_structure.proofs.typed.Variables.{AllMetBut, words-met}
-use Rattle.replay_model.specs.Names.{kind_text, argument_text, index_text, control_text, idle_text, added_id}
+use Rattle.legal_programs.proofs.rewritten_types.Adding.{keeps-objects}
+use Rattle.legal_programs.proofs.alike_scopes.Mains.{body-right}
+use Rattle.normal_laws.proofs.structure.numbers.Listed.{IsOneBody}
+use Rattle.normal_laws.proofs.structure.typed.Variables.{AllMetBut, words-met}
+use Rattle.replay_model.specs.Names.{kind_text, argument_text, index_text, control_text, idle_text, added_id, added_word}
+use Rattle.replay_model.specs.tables.Tables.{control_objects}
 use Rattle.replay_model.specs.ReplayTree.{permit_declared, behind_own, is_task, is_body, last_task, replay_decl, replay_decls, replay_of}
 use Rattle.replay_model.specs.ReplayStmts.{replay_body}
-use Rattle.replay_model.specs.Controlling.{control_declared, idle_declared, control_body, idle_body}
-use Rattle.replay_structure.specs.typed.ScopeOf.{IsNumber}
-use Rattle.replay_structure.specs.typed.Controller.{AreOthers, IsController, IsIdler}
+use Rattle.replay_model.specs.Controlling.{control_ids, control_declared, idle_declared, control_body, idle_body}
+use Rattle.replay_structure.specs.typed.ScopeOf.{IsNumber, IsScopeOf}
+use Rattle.replay_structure.specs.typed.Controller.{IsController, IsAwaited, IsIdler}
 use Rattle.replay_structure.proofs.typed.Declared.{control-declared, idle-declared}
-use Rattle.replay_structure.proofs.typed.Control.{control-met, idle-met}
+use Rattle.replay_structure.proofs.typed.Control.{idle-met}
+use Rattle.replay_structure.proofs.typed.Turning.{control-met}
 use Rattle.replay_structure.proofs.typed.Typed.{body-met}
 use Rattle.replay_structure.specs.scopes.More.{IsGrown, stays, doubled, IsMore, HasPermit}
-use Rattle.replay_structure.specs.scopes.Form.{AreNamesApart, AreAddedNames, AllAlong, first, varied, tasked, last, IsForm}
+use Rattle.replay_structure.specs.scopes.Form.{AreNamesApart, AreAddedNames, AllAlong, IsSingleTask, first, varied, tasked, last, IsForm}
 use Rattle.replay_structure.proofs.scopes.More.{more-self, inside-more}
-use Rattle.replay_structure.proofs.scopes.Permit.{integer-there, IsApart, number-step, number-decls, decls-means}
-use Rattle.replay_structure.proofs.scopes.Units.{IsUnit, task-added, body-added, tasks-both, bodies-both}
+use Rattle.replay_structure.proofs.scopes.Permit.{integer-there, only, IsApart, number-step, number-decls, decls-means}
+use Rattle.replay_structure.proofs.scopes.Units.{IsUnit, task-added, tasks-both, bodies-both}
 use Rattle.replay_structure.proofs.scopes.Scopes.{scope-of, no-own}
 use Rattle.replay_structure.proofs.scopes.Bodies.{control-moved, idle-moved}
 use Rattle.replay_structure.proofs.scopes.Added.{IsControlling, controlling-moved, idler-moved, control-seen, idle-seen}
+use Rattle.replay_structure.proofs.scopes.Moved.{scope-moved}
 use Rattle.replay_structure.proofs.scopes.Main as main
 use Rattle.replay_structure.proofs.texts.Listed.{behind-front}
 use Rattle.ada_static_rules.proofs.found_twice.Declared.{decls_joined}
 
--- a declaration that is added behind the variables: a task with a new name, or a body without objects
-abbrev IsMoreDecl : (ℕ → Bool) → PDecl → Type 0
-IsMoreDecl old (DTask t s) = IsNew old t.name
-IsMoreDecl old (DTaskBody w no_decl its s) = Prim.Unit {0}
-IsMoreDecl old _ = ⊥
+-- a task that is added behind the variables, with a new name
+abbrev IsMoreTask : (ℕ → Bool) → PDecl → Type 0
+IsMoreTask old (DTask t s) = IsNew old t.name
+IsMoreTask old _ = ⊥
 
-decl-added : (q : PProgram) (old : ℕ → Bool) (x : PDecl) (c d : Scope) → IsMoreDecl old x → IsMore q old c d → IsMore q old c (after_decl d x)
-decl-added q old (DTask t s) c d n m = task-added q old t s c d n m
-decl-added q old (DTaskBody w no_decl its s) c d n m = body-added q old w its s c d m
-decl-added q old x c d n m = absurd n
+task-more : (q : PProgram) (old : ℕ → Bool) (x : PDecl) (c d : Scope) → IsMoreTask old x → IsMore q old c d → IsMore q old c (after_decl d x)
+task-more q old (DTask t s) c d n m = task-added q old t s c d n m
+task-more q old x c d n m = absurd n
+
+-- a body leaves scopes alike
+alike-behind : (old : ℕ → Bool) (x : PDecl) → IsOneBody x → (c d : Scope) → Alike old c d → Alike old c (after_decl d x)
+alike-behind old (DTaskBody w objects its s) h c d a = body-right old w objects its s c d a
+alike-behind old x h c d a = absurd h
 
 module _ (g : Setting) (old inner : ℕ → Bool) (names : AreNamesApart g old inner) (added : AreAddedNames g.program old) (ops : List Op) (before vars : List PDecl) (h : IsForm g old inner ops before vars) where
   abbrev q : PProgram
@@ -115,27 +125,21 @@ module _ (g : Setting) (old inner : ℕ → Bool) (names : AreNamesApart g old i
   more3 = tasks-both g old names.entries names.permits names.zero tasks c2 d2 h.tasks unit2.more
 
   morec : IsMore q old c3 dc
-  morec = decl-added q old (control_declared q s n) c3 d3 names.control more3
+  morec = task-more q old (control_declared q s n) c3 d3 names.control more3
 
   morei : IsMore q old c3 di
-  morei = decl-added q old (idle_declared q s) c3 dc names.idle morec
+  morei = task-more q old (idle_declared q s) c3 dc names.idle morec
 
   more4 : IsMore q old c4 d4
   more4 = bodies-both g old names.entries names.permits names.zero bodies c3 di (main.bodies-ready g old inner names bodies c3 h.bodies) morei
 
-  morex : IsMore q old c4 dx
-  morex = decl-added q old (control_body g s ops) c4 d4 tt more4
-
-  morey : IsMore q old c4 dy
-  morey = decl-added q old (idle_body q s) c4 dx tt morex
-
   -- ---- the controller and the idle task
 
-  controlling : IsControlling q n dc
+  controlling : IsControlling q dc
   controlling = control-seen q added.entries d3 (integer-there q old c3 d3 more3 names.zero h.integer).its s n
 
-  controlling-i : IsControlling q n di
-  controlling-i = controlling-moved q n dc di (decls-means (added_id q control_text) (idle_declared q s ∷ []) dc (unequal_turned (added_id q control_text).0 (added_id q idle_text).0 added.tasks, tt)) controlling
+  controlling-i : IsControlling q di
+  controlling-i = controlling-moved q dc di (decls-means (added_id q control_text) (idle_declared q s ∷ []) dc (unequal_turned (added_id q control_text).0 (added_id q idle_text).0 added.tasks, tt)) controlling
 
   idler-i : IsIdler q di
   idler-i = idle-seen q added.entries dc (integer-there q old c3 dc morec names.zero h.integer).its s
@@ -143,8 +147,8 @@ module _ (g : Setting) (old inner : ℕ → Bool) (names : AreNamesApart g old i
   bodies-apart : (id : NameId) → AllByRecursion (IsApart id) (map (replay_decl g) bodies)
   bodies-apart id = main.bodies-apart g old inner names id bodies c3 h.bodies
 
-  controlling4 : IsControlling q n d4
-  controlling4 = controlling-moved q n di d4 (decls-means (added_id q control_text) (map (replay_decl g) bodies) di (bodies-apart (added_id q control_text))) controlling-i
+  controlling4 : IsControlling q d4
+  controlling4 = controlling-moved q di d4 (decls-means (added_id q control_text) (map (replay_decl g) bodies) di (bodies-apart (added_id q control_text))) controlling-i
 
   idler4 : IsIdler q d4
   idler4 = idler-moved q di d4 (decls-means (added_id q idle_text) (map (replay_decl g) bodies) di (bodies-apart (added_id q idle_text))) idler-i
@@ -156,33 +160,27 @@ module _ (g : Setting) (old inner : ℕ → Bool) (names : AreNamesApart g old i
       by_grown (stays e k) = e ∙ h.tasking
       by_grown (doubled es e t) = let f = h.tasking in cc
 
-  controller : IsController q n d4
+  controller : IsController q d4
   controller = record {
     integer = integer-there q old c4 d4 more4 names.zero h.integer_last;
+    integer_outside = main.outside-old g old inner names (record { 0 = 0 }) names.zero;
     seen = controlling4.seen;
-    first = controlling4.first;
-    last = controlling4.last;
     hold = controlling4.hold;
     tasking = tasking-there;
+    tasking_outside = main.outside-old g old inner names (record { 0 = 9 }) added.tasking;
   }
-
-  not-zero : (id : NameId) → old id.0 ≡ false → (id.0 == 0) ≡ false
-  not-zero id e = differ old id.0 0 false true e names.zero (λ p. true≢false (sym p))
-
-  others : AreOthers q
-  others = record { kind = not-zero (added_id q kind_text) names.permits.kind; argument = not-zero (added_id q argument_text) names.permits.argument; index = not-zero (added_id q index_text) names.permits.index }
 
   -- ---- the variables of main's permit
 
-  number-last : (id : NameId) → old id.0 ≡ false → (id.0 == (added_id q control_text).0) ≡ false → (id.0 == (added_id q idle_text).0) ≡ false → IsNumber d2 id → IsNumber (inner_scope dy) id
+  number-last : (id : NameId) → old id.0 ≡ false → (id.0 == (added_id q control_text).0) ≡ false → (id.0 == (added_id q idle_text).0) ≡ false → IsNumber d2 id → IsNumber (inner_scope d4) id
   number-last id e control idle v =
       let in3 : IsNumber d3 id = number-decls id (map (replay_decl g) tasks) d2 (main.tasks-apart g old inner names id e tasks h.tasks h.every) v in
       let ini : IsNumber di id =
       number-decls id (control_declared q s n ∷ idle_declared q s ∷ []) d3 (unequal_turned id.0 (added_id q control_text).0 control, (unequal_turned id.0 (added_id q idle_text).0 idle, tt)) in3 in
       let in4 : IsNumber d4 id = number-decls id (map (replay_decl g) bodies) di (bodies-apart id) ini in
-      number-step d4 (inner_scope dy) id refl (keeps-self d4.types) in4
+      number-step d4 (inner_scope d4) id refl (keeps-self d4.types) in4
 
-  permit-last : HasPermit q (inner_scope dy)
+  permit-last : HasPermit q (inner_scope d4)
   permit-last = record {
     kind = number-last (added_id q kind_text) names.permits.kind names.control_other.kind names.idle_other.kind unit2.permit.kind;
     argument = number-last (added_id q argument_text) names.permits.argument names.control_other.argument names.idle_other.argument unit2.permit.argument;
@@ -194,16 +192,27 @@ module _ (g : Setting) (old inner : ℕ → Bool) (names : AreNamesApart g old i
   last-own : c4.own ≡ []
   last-own = main.decls-own bodies c3 ∙ main.decls-own tasks c2 ∙ main.decls-own vars c1 ∙ main.decls-own before (first_scope q.name)
 
-  text-own : dy.own ≡ []
+  text-own : d4.own ≡ []
   text-own =
       main.decls-own (map (replay_decl g) bodies) di ∙ main.decls-own (map (replay_decl g) tasks) d2 ∙ main.decls-own more_vars c1 ∙ main.decls-own before (first_scope q.name)
 
+  -- behind the bodies of the normal form
+  scope-four : IsScopeOf (main_unit g) old inner (inner_scope c4) (inner_scope d4)
+  scope-four =
+      scope-of (main_unit g) old inner names.kinds names.falses (inner_scope c4) (inner_scope d4) (inside-more q old c4 d4 more4) h.form permit-last (no-own q old (inner_scope c4) (inner_scope d4) last-own text-own)
+      (control-moved q d4 (inner_scope d4) refl controlling4.seen) (idle-moved q d4 (inner_scope d4) refl idler4.seen)
+
+  -- the controller's body leaves the kinds and the marks of its tables
+  tables-kept : (id : NameId) → Keeps (only id) d4.types dy.types
+  tables-kept id = keeps-objects (decls_of (control_objects (control_ids q) s ops)) (in_body d4 (added_word q s control_text)) refl
+
+  scope-last : IsScopeOf (main_unit g) old inner (inner_scope c4) (inner_scope dy)
+  scope-last =
+      scope-moved (main_unit g) old inner (inner_scope c4) (inner_scope d4) (inner_scope dy) (λ id. refl) refl tables-kept
+      (alike-behind old (idle_body q s) tt (inner_scope c4) (inner_scope dx) (alike-behind old (control_body g s ops) tt (inner_scope c4) (inner_scope d4) scope-four.alike)) scope-four
+
   main-met : AllMetBut (body_sites (inner_scope dy) (replay_body (main_unit g) s q.body))
-  main-met =
-      body-met (main_unit g) old inner names.outer (tt, inner_scope c4) (inner_scope dy) 1 s q.body
-      (scope-of (main_unit g) old inner names.kinds names.falses (inner_scope c4) (inner_scope dy) (inside-more q old c4 dy morey) h.form permit-last (no-own q old (inner_scope c4) (inner_scope dy) last-own text-own)
-      (control-moved q d4 (inner_scope dy) refl controlling4.seen) (idle-moved q d4 (inner_scope dy) refl idler4.seen))
-      (omega arith) h.asked
+  main-met = body-met (main_unit g) old inner names.outer (tt, inner_scope c4) (inner_scope dy) 1 s q.body scope-last (omega arith) h.asked
 
   -- ---- all declarations
 
@@ -239,8 +248,8 @@ module _ (g : Setting) (old inner : ℕ → Bool) (names : AreNamesApart g old i
 
   two-bodies-met : AllAlong d4 two_bodies
   two-bodies-met = (
-    control-met g others n d4 controller s ops (main.writables g old inner names n c4 d4 more4 ops h.ops_form),
-    (idle-met g others dx (idler-moved q d4 dx refl idler4) s, tt),
+    control-met g d4 controller s h.few_tasks (all_weaker (IsSingleTask old c4) (IsAwaited q d4) (drop 1 g.numbers.tasks) (main.awaited g old inner names c4 d4 more4) h.single) ops h.ops_form,
+    (idle-met q dx (idler-moved q d4 dx refl idler4) s, tt),
   )
 
   -- ---- one behind the other

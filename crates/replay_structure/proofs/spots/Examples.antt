@@ -10,7 +10,7 @@ use Rattle.replay_model.specs.ReplayTree.{last_task, normal_setting}
 use Rattle.replay_model.specs.ReplayNumbers.{numbers_replayed}
 use Rattle.run_laws.specs.replaying.Copies.{Spots, HasOwners, IsNumbered}
 use Rattle.run_laws.proofs.replaying.Twins.{numbering, numbering_numbers}
-use Rattle.normal_structure.proofs.types.Examples.{original, ordered}
+use Rattle.normal_laws.proofs.structure.types.Examples.{original, ordered}
 use Rattle.replay_structure.specs.spots.Laws.{AreOriginal, IsMet}
 use Rattle.replay_structure.specs.spots.Places.{counts, text_spots}
 use Rattle.replay_structure.proofs.spots.Sorted.{spots_are_numbered}

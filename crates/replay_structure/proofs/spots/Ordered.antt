@@ -13,9 +13,9 @@ use Rattle.syn_event.specs.DeclaredTasks.{tasks_of}
 use Rattle.normal_model.specs.NormalTree.{normal_tree}
 use Rattle.replay_model.specs.ReplayTree.{last_task, normal_setting}
 use Rattle.replay_model.specs.ReplayNumbers.{own_entries}
-use Rattle.normal_structure.specs.types.Laws.{setting_of}
+use Rattle.normal_laws.specs.structure.types.Laws.{setting_of}
 use Rattle.replay_structure.proofs.texts.Owned.{told, all_told, own-at}
-use Rattle.normal_structure.proofs.numbers.Tasked.{under, normal-tasks-of}
+use Rattle.normal_laws.proofs.structure.numbers.Tasked.{under, normal-tasks-of}
 use Rattle.replay_structure.specs.spots.Places.{entries_from}
 use Rattle.replay_structure.specs.spots.Laws.{NormalIsInOrder}
 

@@ -1,6 +1,6 @@
 -- A legal original is as the laws of types and numbers ask.
-use Rattle.normal_is_legal.proofs.numbers.Numbered.{none_legal_is_ded}
-use Rattle.normal_is_legal.proofs.checks.Facts as facts
+use Rattle.normal_laws.proofs.legality.numbers.Numbered.{none_legal_is_ded}
+use Rattle.normal_laws.proofs.legality.checks.Facts as facts
 use Rattle.replay_structure.specs.texts.Laws.{LegalIsAsked}
 
 pub legal_is_asked : LegalIsAsked

@@ -18,8 +18,8 @@ use Rattle.replay_model.specs.Names.{control_text, go_text, done_text, hold_text
 use Rattle.replay_model.specs.Controlling.{added_entry, all_tasks, permit_formals}
 use Rattle.replay_model.specs.ReplayTree.{double_entry, more_entries}
 use Rattle.replay_model.specs.ReplayNumbers.{plain_info, family_info, double_info, own_entries, more_infos, all_infos, added_infos}
-use Rattle.normal_structure.proofs.numbers.Named.{Has, IsReserved, reserved-added}
-use Rattle.normal_structure.proofs.numbers.TasksNumbered.{single_task}
+use Rattle.normal_laws.proofs.structure.numbers.Named.{Has, IsReserved, reserved-added}
+use Rattle.normal_laws.proofs.structure.numbers.TasksNumbered.{single_task}
 use Rattle.replay_structure.proofs.texts.Listed.{more_task, added_tasks}
 use Rattle.replay_structure.proofs.texts.Rooted.{replay-has}
 use Rattle.replay_structure.proofs.texts.Stripped.{strip}

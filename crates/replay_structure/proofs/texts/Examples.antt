@@ -1,5 +1,5 @@
 -- A program with an array of tasks meets what is asked, and its replay text has the numbers of the definition.
-use Rattle.std.specs.Prelude.{◌≡◌, map, List, [], ◌∷◌, Some, None, refl}
+use Rattle.std.specs.Prelude.{◌≡◌, map, drop, List, [], ◌∷◌, None, refl}
 use Rattle.std.specs.Fmt.{digits}
 use Rattle.event_machine.specs.declared.Event.{Event}
 use Rattle.ada_static_rules.specs.Refusals.{types_in}
@@ -8,8 +8,8 @@ use Rattle.syn_event.specs.Numbering.{Numbering}
 use Rattle.syn_event.specs.AllNumbers.{all_numbers}
 use Rattle.replay_model.specs.ReplayTree.{replay_tree}
 use Rattle.replay_model.specs.ReplayNumbers.{replay_numbers}
-use Rattle.normal_structure.proofs.types.Examples.{original, ordered, own}
-use Rattle.normal_structure.proofs.numbers.Examples.{none_is_ded}
+use Rattle.normal_laws.proofs.structure.types.Examples.{original, ordered, own}
+use Rattle.normal_laws.proofs.structure.numbers.Examples.{none_is_ded}
 use Rattle.replay_structure.proofs.texts.Numbered.{replay_numbered}
 
 -- what the definition says of it: main, the two members, the controller and the idle task
@@ -25,7 +25,7 @@ owners : map (λ (x : EntryInfo). x.owner) numbers.entries ≡ 1 ∷ 1 ∷ 1 ∷
 unfolding digits
 owners = refl
 
--- each double stands for its entry
-stand : map (λ (x : EntryInfo). x.stands_for) numbers.entries ≡ None ∷ Some 1 ∷ None ∷ None ∷ None ∷ Some 2 ∷ None ∷ None ∷ None ∷ None ∷ None ∷ None ∷ None ∷ []
+-- those of the controller and of the idle task stand for none; that each double stands for its entry is a law of `spots`
+added : map (λ (x : EntryInfo). x.stands_for) (drop 8 numbers.entries) ≡ None ∷ None ∷ None ∷ None ∷ None ∷ []
 unfolding digits
-stand = refl
+added = refl

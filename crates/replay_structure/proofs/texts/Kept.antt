@@ -17,13 +17,13 @@ use Rattle.replay_model.specs.Names.{added_texts, double_text, double_texts, rep
 use Rattle.legal_programs.specs.rewritten_types.Agreement.{Agrees}
 use Rattle.legal_programs.proofs.rewritten_types.Lookups.{place-all}
 use Rattle.legal_programs.specs.rewritten_values.Values.{old_names}
-use Rattle.normal_structure.specs.types.Own.{own_name}
-use Rattle.normal_structure.specs.types.Laws.{IsOrdered, setting_of, AreOwn}
-use Rattle.normal_structure.specs.numbers.Laws.{NoneIsDed}
-use Rattle.normal_structure.proofs.numbers.Named.{has-folded, has-back, has-flat, has-mapped, added-longer, own-within, own-not-added}
+use Rattle.normal_laws.specs.structure.types.Own.{own_name}
+use Rattle.normal_laws.specs.structure.types.Laws.{IsOrdered, setting_of, AreOwn}
+use Rattle.normal_laws.specs.structure.numbers.Laws.{NoneIsDed}
+use Rattle.normal_laws.proofs.structure.numbers.Named.{has-folded, has-back, has-flat, has-mapped, added-longer, own-within, own-not-added}
 use Rattle.replay_structure.proofs.texts.Rooted.{replay-begins, text-begins}
-use Rattle.normal_structure.proofs.numbers.Tasked.{under, normal-tasks-of}
-use Rattle.normal_structure.proofs.numbers.TaskNames.{IsFine, IsNamed, all-fine, all-named, entries-own, family-kept}
+use Rattle.normal_laws.proofs.structure.numbers.Tasked.{under, normal-tasks-of}
+use Rattle.normal_laws.proofs.structure.numbers.TaskNames.{IsFine, IsNamed, all-fine, all-named, entries-own, family-kept}
 use Rattle.replay_structure.proofs.texts.Entries.{IsKept, IsTaskKept}
 use Rattle.common_lemmas.proofs.Lists.{all_by_place}
 

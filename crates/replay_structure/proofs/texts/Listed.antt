@@ -13,8 +13,8 @@ use Rattle.task_model.specs.Setting.{Setting}
 use Rattle.normal_model.specs.NormalTree.{normal_tree}
 use Rattle.replay_model.specs.ReplayTree.{is_added_object, behind_own, permit_declared, more_entries, replay_decl, is_task, is_body, last_task, replay_decls}
 use Rattle.replay_model.specs.Controlling.{control_declared, idle_declared, control_body, idle_body}
-use Rattle.normal_structure.specs.types.Laws.{setting_of}
-use Rattle.normal_structure.proofs.numbers.Listed.{IsPlain, IsOneTask, IsOneBody, tasks-all, bodies-all, first-plain, firsts, vars, tasks, bodies, vars-plain, normal-list}
+use Rattle.normal_laws.specs.structure.types.Laws.{setting_of}
+use Rattle.normal_laws.proofs.structure.numbers.Listed.{IsPlain, IsOneTask, IsOneBody, tasks-all, bodies-all, first-plain, firsts, vars, tasks, bodies, vars-plain, normal-list}
 use Rattle.common_lemmas.proofs.Lists.{all_weaker}
 use Rattle.syn_event.proofs.DeclLists.{tasks_joined}
 

@@ -23,22 +23,22 @@ use Rattle.normal_model.proofs.VariablesLemmas.{Begins}
 use Rattle.replay_model.specs.Names.{control_text, idle_text, replay_names, added_id}
 use Rattle.replay_model.specs.ReplayTree.{permit_declared, replay_decl, replay_decls, last_task, normal_setting, script_of, replay_tree}
 use Rattle.replay_model.specs.ReplayNumbers.{all_infos, added_infos, numbers_replayed}
-use Rattle.normal_structure.specs.types.Own.{own_name}
-use Rattle.normal_structure.specs.types.Laws.{IsOrdered, setting_of, AreOwn}
-use Rattle.normal_structure.specs.numbers.Laws.{NoneIsDed}
+use Rattle.normal_laws.specs.structure.types.Own.{own_name}
+use Rattle.normal_laws.specs.structure.types.Laws.{IsOrdered, setting_of, AreOwn}
+use Rattle.normal_laws.specs.structure.numbers.Laws.{NoneIsDed}
 use Rattle.replay_structure.specs.texts.Laws.{ReplayNumbered}
-use Rattle.normal_structure.proofs.numbers.Named.{added-longer, own-within, begins-within}
-use Rattle.normal_structure.specs.numbers.Single.{IsSingle}
-use Rattle.normal_structure.proofs.numbers.TasksNumbered.{single_task, single_numbers, numbers-single, entries-joined}
-use Rattle.normal_structure.proofs.numbers.Listed.{IsPlain, IsOneTask, IsOneBody, first-plain, firsts, vars, tasks, bodies, vars-plain, tasks-all, bodies-all}
+use Rattle.normal_laws.proofs.structure.numbers.Named.{added-longer, own-within, begins-within}
+use Rattle.normal_laws.specs.structure.numbers.Single.{IsSingle}
+use Rattle.normal_laws.proofs.structure.numbers.TasksNumbered.{single_task, single_numbers, numbers-single, entries-joined}
+use Rattle.normal_laws.proofs.structure.numbers.Listed.{IsPlain, IsOneTask, IsOneBody, first-plain, firsts, vars, tasks, bodies, vars-plain, tasks-all, bodies-all}
 use Rattle.replay_structure.proofs.texts.Listed.{all-behind, more_task, added_tasks, replay-tasks}
 use Rattle.replay_structure.proofs.texts.Rooted.{replay-begins, replay-list, replay_agrees}
 use Rattle.replay_structure.proofs.texts.Stripped.{strip, origins-alike}
 use Rattle.replay_structure.proofs.texts.Owned.{own-at}
-use Rattle.normal_structure.proofs.numbers.Tasked.{under, normal-tasks-of}
+use Rattle.normal_laws.proofs.structure.numbers.Tasked.{under, normal-tasks-of}
 use Rattle.replay_structure.proofs.texts.Entries.{whole, added-part}
-use Rattle.normal_structure.proofs.numbers.TaskNames.{IsNamed, normal-begins, all-named}
-use Rattle.normal_structure.proofs.numbers.Numbered.{plain-single}
+use Rattle.normal_laws.proofs.structure.numbers.TaskNames.{IsNamed, normal-begins, all-named}
+use Rattle.normal_laws.proofs.structure.numbers.Numbered.{plain-single}
 use Rattle.replay_structure.proofs.texts.Kept.{all-kept}
 use Rattle.common_lemmas.proofs.Lists.{all_joined, all_weaker}
 use Rattle.syn_event.proofs.DeclLists.{listed_back}

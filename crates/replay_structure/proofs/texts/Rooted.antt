@@ -24,16 +24,16 @@ use Rattle.legal_programs.specs.rewritten_types.Rewriting.{IsAdded, AreAdded}
 use Rattle.legal_programs.specs.rewritten_types.Laws.{behind}
 use Rattle.legal_programs.proofs.rewritten_types.Rooting.{rewritten_is_rooted, rooted_agrees}
 use Rattle.legal_programs.specs.rewritten_values.Values.{old_names}
-use Rattle.normal_structure.specs.types.Own.{own_name}
-use Rattle.normal_structure.specs.types.Laws.{setting_of, AreOwn}
-use Rattle.normal_structure.proofs.types.Names.{fold-begins, added_names_are_new}
-use Rattle.normal_structure.proofs.types.Variables.{IsTaskOrBody, are-added, task-added, tasks-only, bodies-only, unit-new}
-use Rattle.normal_structure.proofs.types.Fronts.{first_decls_are_front}
-use Rattle.normal_structure.proofs.types.Normal.{front-after, first-every}
+use Rattle.normal_laws.specs.structure.types.Own.{own_name}
+use Rattle.normal_laws.specs.structure.types.Laws.{setting_of, AreOwn}
+use Rattle.normal_laws.proofs.structure.types.Names.{fold-begins, added_names_are_new}
+use Rattle.normal_laws.proofs.structure.types.Variables.{IsTaskOrBody, are-added, task-added, tasks-only, bodies-only, unit-new}
+use Rattle.normal_laws.proofs.structure.types.Fronts.{first_decls_are_front}
+use Rattle.normal_laws.proofs.structure.types.Normal.{front-after, first-every}
 use Rattle.replay_structure.specs.texts.Laws.{ReplayIsRooted, ReplayAgrees}
-use Rattle.normal_structure.proofs.numbers.Named.{text-there, Has, has-folded, has-front, added-longer, reserved-new, own-within, own-not-added}
-use Rattle.normal_structure.proofs.numbers.Listed.{firsts, vars, tasks, bodies}
-use Rattle.normal_structure.proofs.numbers.TaskNames.{normal-begins}
+use Rattle.normal_laws.proofs.structure.numbers.Named.{text-there, Has, has-folded, has-front, added-longer, reserved-new, own-within, own-not-added}
+use Rattle.normal_laws.proofs.structure.numbers.Listed.{firsts, vars, tasks, bodies}
+use Rattle.normal_laws.proofs.structure.numbers.TaskNames.{normal-begins}
 use Rattle.replay_structure.proofs.texts.Listed.{all-behind, behind-front, normal-plain, normal-tasks, normal-bodies}
 use Rattle.common_lemmas.proofs.Lists.{all_joined, all_weaker}
 use Rattle.normal_model.proofs.WalkLemmas.{listed-front}

@@ -14,15 +14,15 @@ use Rattle.ada_static_rules.specs.Sites.{if_there, expr_of, accept_index_sites, 
 use Rattle.ada_static_rules.specs.RuleArgCount.{at_place, fits_accept, are_same, written_formals, wrong_accept}
 use Rattle.task_model.specs.Setting.{Setting, entry_of}
 use Rattle.normal_model.specs.RewrittenUnit.{RewrittenUnit}
-use Rattle.normal_structure.specs.checked.Around.{own_rules}
+use Rattle.normal_laws.specs.structure.checked.Around.{own_rules}
 use Rattle.replay_model.specs.Asking.{member_number}
 use Rattle.replay_model.specs.Serving.{permits_start}
 use Rattle.replay_structure.specs.asked.Pieces.{never_head}
 use Rattle.legal_programs.specs.alike_scopes.Laws.{IsMetBut}
-use Rattle.normal_structure.proofs.typed.Places.{met-accepts}
-use Rattle.normal_structure.proofs.typed.Variables.{AllMetBut}
-use Rattle.normal_structure.proofs.typed.Calls.{fits-told, as_family}
-use Rattle.normal_structure.proofs.typed.Stays.{head-stays}
+use Rattle.normal_laws.proofs.structure.typed.Places.{met-accepts}
+use Rattle.normal_laws.proofs.structure.typed.Variables.{AllMetBut}
+use Rattle.normal_laws.proofs.structure.typed.Calls.{fits-told, as_family}
+use Rattle.normal_laws.proofs.structure.typed.Stays.{head-stays}
 use Rattle.replay_structure.specs.typed.ScopeOf.{IsEntryOf, IsScopeOf}
 use Rattle.replay_structure.proofs.typed.Tests.{IsFit, IsLoose, fit-of, literal-fit}
 use Rattle.replay_structure.proofs.typed.Permits.{member-fit, at-loose}

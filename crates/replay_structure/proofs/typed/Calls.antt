@@ -21,8 +21,8 @@ use Rattle.ada_static_rules.specs.RuleArgCount.{at_place, index_of_callee, fits_
 use Rattle.task_model.specs.Setting.{Setting, is_family, first_expr, lists_in, lists_of}
 use Rattle.normal_model.specs.Calls.{entry_called, lists_called}
 use Rattle.normal_model.specs.RewrittenUnit.{RewrittenUnit}
-use Rattle.normal_structure.specs.asked.Pieces.{named}
-use Rattle.normal_structure.specs.checked.Around.{own_rules}
+use Rattle.normal_laws.specs.structure.asked.Pieces.{named}
+use Rattle.normal_laws.specs.structure.checked.Around.{own_rules}
 use Rattle.replay_model.specs.Names.{kind_text, argument_text, index_text, added_id}
 use Rattle.replay_model.specs.Asking.{permit_part, member_number}
 use Rattle.replay_model.specs.Calling.{double_call}
@@ -31,10 +31,10 @@ use Rattle.legal_programs.specs.alike_scopes.Alike.{Alike, IsSameTask}
 use Rattle.legal_programs.specs.alike_scopes.Old.{IsOldExpr}
 use Rattle.legal_programs.specs.alike_scopes.Laws.{IsMetBut}
 use Rattle.legal_programs.proofs.alike_scopes.Calls.{called_is_same, tasks_refuse_same, calls_refuse_same}
-use Rattle.normal_structure.proofs.typed.Places.{met-callee, met-calls, met-of}
-use Rattle.normal_structure.proofs.typed.Variables.{AllMetBut, of-kind, actual-met}
-use Rattle.normal_structure.proofs.typed.Calls.{fits-told, entry-there, as_family}
-use Rattle.normal_structure.proofs.typed.Stays.{old-expr, stays, expr-stays, of-stays}
+use Rattle.normal_laws.proofs.structure.typed.Places.{met-callee, met-calls, met-of}
+use Rattle.normal_laws.proofs.structure.typed.Variables.{AllMetBut, of-kind, actual-met}
+use Rattle.normal_laws.proofs.structure.typed.Calls.{fits-told, entry-there, as_family}
+use Rattle.normal_laws.proofs.structure.typed.Stays.{old-expr, stays, expr-stays, of-stays}
 use Rattle.replay_structure.specs.typed.ScopeOf.{IsNumber, HasLists, IsFamilyOf, IsEntryOf, HasDoubles, IsScopeOf, IsSingle, permit_parts, double_id}
 use Rattle.replay_structure.proofs.typed.Tests.{IsFit, fit-of, fit-met, literal-fit, number-variable, number-kind}
 use Rattle.replay_structure.proofs.typed.Permits.{member-fit}

@@ -1,6 +1,6 @@
 -- The declarations of a replay text meet the static rules 1 and 3 to 12: the variables of a permit, the controller, the idle task, and the tasks of
 -- the normal form with doubles of their entries.
-use Rattle.std.proofs.Common.{◌≡◌, ℕ, pos, negsuc, int_lt, Bool, true, false, ◌&&◌, if◌then◌else◌, List, [], ◌∷◌, ◌++◌, map, flat_map, Option, Some, None, IfSome, option_map, refl, sym, ap, ap₂, subst, ◌∙◌, arith}
+use Rattle.std.proofs.Common.{◌≡◌, ℕ, pos, int_lt, Bool, true, false, ◌&&◌, if◌then◌else◌, List, [], ◌∷◌, ◌++◌, map, flat_map, Option, Some, None, IfSome, option_map, refl, sym, ap, ap₂, subst, ◌∙◌, arith}
 use Rattle.std.specs.List.{AllByRecursion}
 use Rattle.std.proofs.lemmas.Int.{ints}
 use Rattle.std.proofs.lemmas.List.Elements.{recursion_from_All}
@@ -16,21 +16,21 @@ use Rattle.ada_static_rules.specs.Scope.{Scope, Range, Variable, ScalarMark, int
 use Rattle.ada_static_rules.specs.Declaring.{Declared, subind_made, of_made, plain_object, declared_object}
 use Rattle.ada_static_rules.specs.Demand.{must_be_static, must_lie_in, initializes, for_scalar, Site}
 use Rattle.ada_static_rules.specs.Sites.{site, if_there, names_sites, expr_of, static_of, drange_sites, formals_sites, entry_sites, entries_sites, shape_sites, scalar_init_sites, is_task_object, object_marking, init_sites, decl_sites}
-use Rattle.normal_structure.specs.checked.Around.{own_rules}
+use Rattle.normal_laws.specs.structure.checked.Around.{own_rules}
 use Rattle.normal_model.specs.Ranges.{integer_subtype}
 use Rattle.replay_model.specs.Names.{kind_text, argument_text, index_text, go_text, done_text, hold_text, stop_text, rest_text, never_text, join_text, added_word}
 use Rattle.replay_model.specs.ReplayTree.{permit_declared, double_entry, more_entries}
 use Rattle.replay_model.specs.Controlling.{added_entry, all_tasks, permit_formals, control_declared, idle_declared}
 use Rattle.legal_programs.specs.alike_scopes.Alike.{Alike}
 use Rattle.legal_programs.specs.alike_scopes.Laws.{IsMetBut}
-use Rattle.normal_structure.specs.typed.ScopeOf.{MeansInteger}
-use Rattle.normal_structure.proofs.typed.Places.{met-declares, met-static, met-in}
-use Rattle.normal_structure.proofs.typed.Variables.{AllMetBut, words-met}
-use Rattle.normal_structure.proofs.typed.Literals.{integer-marked}
-use Rattle.normal_structure.proofs.typed.Stays.{old-expr, old-drange, old-formals, static-stays, drange-stays, formals-stay}
+use Rattle.normal_laws.specs.structure.typed.ScopeOf.{MeansInteger}
+use Rattle.normal_laws.proofs.structure.typed.Places.{met-declares, met-static, met-in}
+use Rattle.normal_laws.proofs.structure.typed.Variables.{AllMetBut, words-met}
+use Rattle.normal_laws.proofs.structure.typed.Literals.{integer-marked}
+use Rattle.normal_laws.proofs.structure.typed.Stays.{old-expr, old-drange, old-formals, static-stays, drange-stays, formals-stay}
 use Rattle.replay_structure.specs.typed.Controller.{IsInteger}
 use Rattle.replay_structure.proofs.typed.Calls.{number-met}
-use Rattle.replay_structure.proofs.typed.Control.{integer-mark}
+use Rattle.replay_structure.proofs.typed.Control.{integer-mark, all_values, integer-range}
 
 -- ---- names
 
@@ -174,10 +174,6 @@ module _ (q : PProgram) (d : Scope) (int : MeansInteger d) (s : Span) where
 
 -- ---- the variables of a permit
 
--- INTEGER's values
-abbrev all_values : Range
-all_values = record { kind = integer_kind; first = negsuc 2147483647; last = pos 2147483647 }
-
 module _ (q : PProgram) (d : Scope) (int : IsInteger d) (s : Span) where
   abbrev of_integer : PSubind
   of_integer = integer_subtype s
@@ -195,12 +191,6 @@ module _ (q : PProgram) (d : Scope) (int : IsInteger d) (s : Span) where
   its-marking : marking_of_mark d.types int.its.place (mark_at d.types int.its.place) ≡ ScalarMark int.its.place integer_kind
   its-marking = sym (ap (marking_of d.types) int.its.means) ∙ integer-marked d int.its
 
-  its-range : range_of_mark d.types int.its.place ≡ Some all_values
-  its-range =
-      ap (option_map (λ (m : Mark). record { kind = m.kind; first = m.first; last = m.last })) int.its.there
-      ∙ ap (λ k. Some (record { kind = k; first = int.its.mark.first; last = int.its.mark.last })) int.its.kind
-      ∙ ap₂ (λ a b. Some (record { kind = integer_kind; first = a; last = b })) int.its.first int.last
-
   nothing-met : AllMetBut (scalar_init_sites d (Some all_values) nothing_yet ++ site d (initializes for_scalar nothing_yet) ∷ [])
   nothing-met =
       all_joined IsMetBut (static_of d (Some integer_kind) (EInteger 0 s) ++ site d (must_lie_in (EInteger 0 s) (Some all_values)) ∷ []) (site d (initializes for_scalar nothing_yet) ∷ [])
@@ -211,7 +201,7 @@ module _ (q : PProgram) (d : Scope) (int : IsInteger d) (s : Span) where
   init-met =
       subst (λ (x : Declared). AllMetBut (init_sites d x.types (object_marking x) nothing_yet)) (sym permit-thing)
       (subst (λ m. AllMetBut (init_sites d d.types m nothing_yet)) (sym its-marking)
-      (subst (λ r. AllMetBut (scalar_init_sites d r nothing_yet ++ site d (initializes for_scalar nothing_yet) ∷ [])) (sym its-range) nothing-met))
+      (subst (λ r. AllMetBut (scalar_init_sites d r nothing_yet ++ site d (initializes for_scalar nothing_yet) ∷ [])) (sym (integer-range d int)) nothing-met))
 
   -- `DED_K, DED_A, DED_I : INTEGER := 0;`, in main or in a body
   pub permit-met : AllMetBut (decl_sites d (permit_declared q s))

@@ -19,11 +19,11 @@ use Rattle.task_model.specs.Setting.{Setting, entry_of}
 use Rattle.legal_programs.specs.rewritten_types.Agreement.{IsScalar}
 use Rattle.normal_model.specs.RewrittenUnit.{RewrittenUnit}
 use Rattle.normal_model.specs.Ranges.{kind_name}
-use Rattle.normal_structure.specs.checked.Around.{own_rules}
+use Rattle.normal_laws.specs.structure.checked.Around.{own_rules}
 use Rattle.legal_programs.specs.alike_scopes.Alike.{Alike}
 use Rattle.legal_programs.proofs.alike_scopes.Inner.{inside_is_alike, formals_are_alike, loop_is_alike}
-use Rattle.normal_structure.proofs.typed.Stays.{old-formals, old-drange}
-use Rattle.normal_structure.proofs.typed.Scopes.{IsNoTask, differ, meaning-more, not-called, formal-no-task, loop-no-task}
+use Rattle.normal_laws.proofs.structure.typed.Stays.{old-formals, old-drange}
+use Rattle.normal_laws.proofs.structure.typed.Scopes.{IsNoTask, differ, meaning-more, not-called, formal-no-task, loop-no-task}
 use Rattle.replay_model.specs.Names.{control_text, idle_text, never_text, added_id}
 use Rattle.replay_structure.specs.typed.ScopeOf.{AreOuter, IsNumber, HasLists, IsCountedBy, as_itself, by_position, IsEntryOf, HasDoubles, IsControl, IsIdle, IsScopeOf, AreInner, IsInnerScheme}
 
@@ -117,7 +117,7 @@ module _ (u : RewrittenUnit) (old inner : ℕ → Bool) (outer : AreOuter u.sett
 
     entry-kept : (e : ℕ) (fam : Family) → IsEntryOf g inner d e fam → IsEntryOf g inner d' e fam
     entry-kept e single h = h
-    entry-kept e (family range) h = record { written = h.written; is = h.is; counted = counted-kept g.types _ range.kind h.counted }
+    entry-kept e (family range) h = record { written = h.written; flag = h.flag; is = h.is; counted = counted-kept g.types _ range.kind h.counted }
     entry-kept e unclear h = h
 
     control-kept : IsControl q d → IsControl q d'

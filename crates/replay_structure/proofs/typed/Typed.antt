@@ -17,11 +17,11 @@ use Rattle.normal_model.specs.RewrittenUnit.{RewrittenUnit}
 use Rattle.legal_programs.specs.asked.Asked.{Asks, AskedAlts, AskedKind, AskedBody}
 use Rattle.legal_programs.specs.asked.Kinds.{type_asks}
 use Rattle.legal_programs.proofs.asked.Typed.{asked_typed}
-use Rattle.normal_structure.specs.checked.Around.{own_rules}
+use Rattle.normal_laws.specs.structure.checked.Around.{own_rules}
 use Rattle.legal_programs.specs.alike_scopes.Old.{IsOldExpr, IsOldChoice}
 use Rattle.legal_programs.specs.alike_scopes.Laws.{IsMetBut}
-use Rattle.normal_structure.proofs.typed.Cases.{with_cases, cases_asked}
-use Rattle.normal_structure.proofs.typed.Stays.{old-expr, old-choices, no-array, condition-stays, loop-stays, choices-stay, selector-stays, handler-stays, plain-stays}
+use Rattle.normal_laws.proofs.structure.typed.Cases.{with_cases, cases_asked}
+use Rattle.normal_laws.proofs.structure.typed.Stays.{old-expr, old-choices, no-array, condition-stays, loop-stays, choices-stay, selector-stays, handler-stays, plain-stays}
 use Rattle.replay_model.specs.Names.{control_text, idle_text, added_word}
 use Rattle.replay_model.specs.Asking.{permit_is_kind, permit_is_for}
 use Rattle.replay_model.specs.Serving.{permits_start}

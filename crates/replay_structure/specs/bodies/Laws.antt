@@ -21,8 +21,8 @@ use Rattle.replay_model.specs.Controlling.{control_body, idle_body}
 use Rattle.replay_model.specs.ReplayStmts.{replay_body}
 use Rattle.replay_model.specs.ReplayTree.{behind_own, permit_declared, last_task, normal_setting, replay_of}
 use Rattle.replay_model.specs.ReplayNumbers.{numbers_replayed}
-use Rattle.normal_structure.specs.types.Laws.{IsOrdered, AreOwn}
-use Rattle.normal_structure.specs.numbers.Laws.{NoneIsDed}
+use Rattle.normal_laws.specs.structure.types.Laws.{IsOrdered, AreOwn}
+use Rattle.normal_laws.specs.structure.numbers.Laws.{NoneIsDed}
 
 -- The tasks of a normal form keep their numbers in its replay text; behind them stand the controller and the idle task.
 pub record TasksStay (g : Setting) : Type 0 where

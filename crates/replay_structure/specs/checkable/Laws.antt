@@ -6,7 +6,7 @@ use Rattle.ada_static_rules.specs.Refusals.{types_in}
 use Rattle.syn_event.specs.declared.numbering.Mode.TheVariants.{Any}
 use Rattle.syn_event.specs.AllNumbers.{all_numbers}
 use Rattle.syn_event.specs.CheckRefusals.{MeetsCheckRules}
-use Rattle.normal_structure.specs.placed.Example.{passing}
+use Rattle.normal_laws.specs.structure.placed.Example.{passing}
 use Rattle.replay_model.specs.ReplayTree.{replay_tree, script_of}
 use Rattle.replay_structure.specs.checked.Checkable.{IsCheckable}
 use Rattle.replay_structure.specs.checked.Example.{example_events}

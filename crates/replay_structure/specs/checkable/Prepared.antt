@@ -1,8 +1,7 @@
 -- What is asked of a program and a sequence of its events, so that the normal form is as its replay text asks (this project's rule).
-use Rattle.std.specs.Prelude.{◌≡◌, ℕ, ◌≤◌, ◌<◌, ◌==◌, true, false, List, length}
+use Rattle.std.specs.Prelude.{◌≡◌, ◌≤◌, true, List, length, drop}
 use Rattle.std.specs.List.{AllByRecursion}
 use Rattle.event_machine.specs.declared.Event.{Event}
-use Rattle.event_machine.specs.declared.Event.TheVariants.{X, B}
 use Rattle.ada_tree.specs.Attributes.{false_name}
 use Rattle.ada_tree.specs.PlainProgram.{PProgram}
 use Rattle.ada_tree.specs.Every.{EveryDecl, EveryBody}
@@ -12,27 +11,15 @@ use Rattle.syn_event.specs.AllNumbers.{all_numbers}
 use Rattle.syn_event.specs.CheckRefusals.{MeetsCheckRules}
 use Rattle.syn_event.specs.DeclaredTasks.{decl_list, tasks_of}
 use Rattle.task_model.specs.Setting.{Setting}
-use Rattle.normal_model.specs.Names.{task_name_at}
-use Rattle.normal_structure.specs.types.Own.{own_name}
-use Rattle.normal_structure.specs.types.Laws.{IsOrdered, AreOwn}
+use Rattle.normal_laws.specs.structure.types.Own.{own_name}
+use Rattle.normal_laws.specs.structure.types.Laws.{IsOrdered, AreOwn}
 use Rattle.replay_model.specs.ReplayTree.{normal_setting}
 use Rattle.replay_structure.specs.checked.Around.{kept_names}
-use Rattle.replay_structure.specs.checked.Checkable.{IsOtherThanTruth, entries_count}
+use Rattle.replay_structure.specs.checked.Checkable.{IsOtherThanTruth, entries_count, IsBeside}
 
 -- the setting of the normal form of a program, with the program's own types and numbers
 abbrev pub form_for : PProgram → Setting
 form_for p = normal_setting p (types_in p) (all_numbers (types_in p) p)
-
--- the number of a task of the program beside main
-pub record IsBesideMain (p : PProgram) (t : ℕ) : Type 0 where
-  pub low : 1 ≤ t
-  pub high : t < length (all_numbers (types_in p) p).tasks
-
--- a task whose end is waited for is one beside main
-abbrev pub EndsBeside : (ℕ → Type 0) → Event → Type 0
-EndsBeside Beside (X t) = Beside t
-EndsBeside Beside (B t x) = Beside x
-EndsBeside Beside _ = Unit {0}
 
 -- What is asked of the program and of the events.
 pub record IsPrepared (p : PProgram) (events : List Event) : Type 0 where
@@ -48,6 +35,7 @@ pub record IsPrepared (p : PProgram) (events : List Event) : Type 0 where
   pub untrue : AllByRecursion IsOtherThanTruth (decl_list (form_for p).program.decls)
   pub few_tasks : length (tasks_of (form_for p).program) ≤ 200
   pub few_entries : entries_count (tasks_of (form_for p).program) ≤ 1000
-  pub apart : (t : ℕ) → IsBesideMain p t → ((task_name_at (form_for p) t).0 == p.name.name.0) ≡ false
-  -- the events tell of the ends of tasks beside main alone
-  pub ends : AllByRecursion (EndsBeside (IsBesideMain p)) events
+  pub apart : AllByRecursion (IsBeside (form_for p).program) (drop 1 (form_for p).numbers.tasks)
+  -- a sequence has at most 200,000 events, and a program 201 tasks with main
+  pub few_events : length events ≤ 200000
+  pub few_numbered : length (all_numbers (types_in p) p).tasks ≤ 201

@@ -1,6 +1,6 @@
 -- What is asked of a normal form with its numbers, and of the operations of a controller, so that the replay text meets the rules 13 to 23 (this
 -- project's rule).
-use Rattle.std.specs.Prelude.{◌≡◌, ℕ, ◌≤◌, ◌==◌, Bool, true, false, not, ◌||◌, List, [], ◌∷◌, ◌++◌, length, ◌+◌, IfSome}
+use Rattle.std.specs.Prelude.{◌≡◌, ℕ, ◌≤◌, ◌==◌, Bool, true, false, not, ◌||◌, List, [], ◌∷◌, ◌++◌, length, drop, ◌+◌, IfSome}
 use Rattle.std.specs.List.{AllByRecursion, filter, list_any}
 use Rattle.ada_tree.specs.Attributes.{false_name}
 use Rattle.ada_tree.specs.TypeTable.{TypeTable}
@@ -9,14 +9,13 @@ use Rattle.ada_tree.specs.PlainDecl.{PShape, OPlain, OArray, PEntry, PTask, PDec
 use Rattle.ada_tree.specs.PlainProgram.{PProgram}
 use Rattle.ada_tree.specs.Every.{EveryDecl, EveryBody}
 use Rattle.ada_static_rules.specs.Refusals.{types_in}
+use Rattle.syn_event.specs.declared.numbering.TaskInfo.{TaskInfo}
 use Rattle.syn_event.specs.Extents.{size, is_array_type}
 use Rattle.syn_event.specs.DeclaredTasks.{text_of, decl_list, tasks_of}
 use Rattle.task_model.specs.Setting.{Setting}
 use Rattle.control_script.specs.declared.Op.{Op}
-use Rattle.control_script.specs.declared.Op.TheVariants.{Go, Done, Join, Hold}
-use Rattle.normal_model.specs.Names.{task_name_at}
 use Rattle.legal_programs.specs.asked.Asked.{AskedBody}
-use Rattle.normal_structure.specs.numbers.Single.{IsSingle}
+use Rattle.normal_laws.specs.structure.numbers.Single.{IsSingle}
 use Rattle.replay_model.specs.ReplayTree.{is_task, is_body, last_task, replay_of}
 use Rattle.replay_structure.specs.checked.Around.{kept_name, kept_names, form_asks}
 
@@ -73,18 +72,15 @@ abbrev pub entries_count : List PTask → ℕ
 entries_count [] = 0
 entries_count (t ∷ ts) = length t.entries + entries_count ts
 
--- ---- names and operations
+-- ---- names
 
 -- the double of an entry has a name of at most 150 bytes
 abbrev pub IsShortEntry : PProgram → PEntry → Type 0
 IsShortEntry q e = length (text_of q.names e.name.name) ≤ 144
 
--- the controller waits for the end of a task beside main
-abbrev pub IsJoinable : Setting → Op → Type 0
-IsJoinable g (Go t kind arg index) = Unit {0}
-IsJoinable g (Done t) = Unit {0}
-IsJoinable g (Join t) = ((task_name_at g t).0 == g.program.name.name.0) ≡ false
-IsJoinable g Hold = Unit {0}
+-- a task has another name than main
+abbrev pub IsBeside : PProgram → TaskInfo → Type 0
+IsBeside q info = (info.name.0 == q.name.name.0) ≡ false
 
 -- ---- the whole
 
@@ -109,5 +105,7 @@ pub record IsCheckable (g : Setting) (ops : List Op) : Type 0 where
   pub few_entries : entries_count (tasks_of g.program) ≤ 1000
   pub few_numbers : last_task g.numbers ≤ 200
   pub short : AllByRecursion (λ t. AllByRecursion (IsShortEntry g.program) t.entries) (tasks_of g.program)
-  -- the controller calls tasks beside main alone
-  pub joined : AllByRecursion (IsJoinable g) ops
+  -- a table has as many components as there are operations, and an array at most 1,000,000
+  pub few_ops : length ops ≤ 1000000
+  -- the controller waits for the ends of tasks beside main
+  pub joined : AllByRecursion (IsBeside g.program) (drop 1 g.numbers.tasks)

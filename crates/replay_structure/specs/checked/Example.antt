@@ -6,7 +6,7 @@ use Rattle.event_machine.specs.declared.Event.{Event}
 use Rattle.event_machine.specs.declared.Event.TheVariants.{R, E, X, Z}
 use Rattle.task_model.specs.Setting.{Setting}
 use Rattle.control_script.specs.declared.Op.{Op}
-use Rattle.normal_structure.specs.placed.Example.{passing_set}
+use Rattle.normal_laws.specs.structure.placed.Example.{passing_set}
 use Rattle.replay_model.specs.ReplayTree.{normal_setting, script_of}
 
 -- the normal form of a program with a task, of which main calls an entry

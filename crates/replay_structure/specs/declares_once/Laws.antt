@@ -10,12 +10,12 @@ use Rattle.syn_event.specs.Numbering.{Numbering}
 use Rattle.control_script.specs.declared.Op.{Op}
 use Rattle.normal_model.specs.RewrittenUnit.{RewrittenUnit}
 use Rattle.normal_model.specs.NormalTree.{normal_tree}
-use Rattle.normal_runs.specs.forms.Choosing.{choosing}
-use Rattle.normal_runs.specs.forms.Normalisable.{numbers_of, made_for}
+use Rattle.normal_laws.specs.runs.forms.Choosing.{choosing}
+use Rattle.normal_laws.specs.runs.forms.Normalisable.{numbers_of, made_for}
 use Rattle.legal_programs.specs.literals.Colours.{coloured}
-use Rattle.normalisable.specs.Laws.{IsLegalOriginal}
-use Rattle.normal_structure.specs.once.Once.{AllOnce}
-use Rattle.normal_structure.specs.once.Names.{body_names}
+use Rattle.normal_laws.specs.existence.Laws.{IsLegalOriginal}
+use Rattle.normal_laws.specs.structure.once.Once.{AllOnce}
+use Rattle.normal_laws.specs.structure.once.Names.{body_names}
 use Rattle.replay_model.specs.ReplayStmts.{replay_body}
 use Rattle.replay_model.specs.ReplayTree.{replay_of, normal_setting}
 use Rattle.replay_structure.specs.declares_once.Names.{LeavesNames}

@@ -9,14 +9,18 @@ use Rattle.ada_static_rules.specs.Sites.{sites}
 use Rattle.ada_decl_rules.specs.duplicates.NamingsInOrder.{namings_of}
 use Rattle.ada_decl_rules.specs.declared.duplicates.namings_in_order.Naming.{Naming}
 use Rattle.ada_decl_rules.specs.declared.duplicates.namings_in_order.Naming.TheVariants.{Declares, Labels, Once}
-use Rattle.replay_model.specs.Names.{kind_text, argument_text, index_text, control_text, idle_text, never_text, join_text}
+use Rattle.replay_model.specs.Names.{kind_text, argument_text, index_text, control_text, idle_text, never_text, join_text, operations_text, tasks_text, kinds_text, arguments_text, indices_text, counter_text}
 
--- A replay text declares a name of this text: the variables of a permit, the controller, the idle task, the two more entries of each task, and the
--- doubles of entries. The entries of the controller and of the idle task stand apart.
+-- what each replay text declares: the variables of a permit, the controller, the idle task, the two more entries of each task, and the tables and the
+-- loop parameter of the controller; the entries of the controller and of the idle task stand apart
+abbrev pub declared_texts : List (List ℕ)
+declared_texts =
+    kind_text ∷ argument_text ∷ index_text ∷ control_text ∷ idle_text ∷ never_text ∷ join_text
+    ∷ operations_text ∷ tasks_text ∷ kinds_text ∷ arguments_text ∷ indices_text ∷ counter_text ∷ []
+
+-- A replay text declares a name of this text: one of those, or the double of an entry.
 abbrev pub is_added_text : List ℕ → Bool
-is_added_text t =
-    list_any (bytes_eq t) (kind_text ∷ argument_text ∷ index_text ∷ control_text ∷ idle_text ∷ never_text ∷ join_text ∷ [])
-    || starts_with nat_eq t (codes "DED_S_")
+is_added_text t = list_any (bytes_eq t) declared_texts || starts_with nat_eq t (codes "DED_S_")
 
 -- the name that is declared, given to a loop, or named
 abbrev pub word_named : Naming → Word

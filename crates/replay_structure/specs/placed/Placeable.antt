@@ -11,9 +11,8 @@ use Rattle.control_script.specs.declared.Op.{Op}
 use Rattle.control_script.specs.declared.Op.TheVariants.{Go, Done, Join, Hold}
 use Rattle.task_model.specs.Setting.{Setting}
 use Rattle.legal_programs.specs.asked.Asked.{AskedBody}
-use Rattle.normal_model.specs.Names.{task_name}
 use Rattle.normal_model.specs.NormalTree.{unit_for, main_unit}
-use Rattle.normal_structure.specs.placed.Placeable.{IsName, IsSmallIndex, MarksHaveNames}
+use Rattle.normal_laws.specs.structure.placed.Placeable.{IsName, IsSmallIndex, MarksHaveNames}
 use Rattle.replay_model.specs.Names.{double_text}
 use Rattle.replay_structure.specs.placed.Fitting.{fit_asks}
 
@@ -23,7 +22,7 @@ use Rattle.replay_structure.specs.placed.Fitting.{fit_asks}
 abbrev pub HasLiterals : Op → Type 0
 HasLiterals (Go t kind arg index) = IsInteger t × IsInteger kind × IsInteger arg × IsSmallIndex index
 HasLiterals (Done t) = IsInteger t
-HasLiterals (Join t) = Unit {0}
+HasLiterals (Join t) = IsInteger t
 HasLiterals Hold = Unit {0}
 
 -- the index of an event is a number that has a literal
@@ -56,6 +55,6 @@ pub record IsReplayPlaceable (g : Setting) : Type 0 where
   pub main : AskedBody (fit_asks (main_unit g)) tt 1 g.program.body
   pub decls : AllByRecursion (FitsDecl g) (decl_list g.program.decls)
   pub marks : MarksHaveNames g.program.names g.types
-  pub tasks : AllByRecursion (λ info. IsName g.program.names (task_name g info)) g.numbers.tasks
+  pub tasks : AllByRecursion (λ info. IsName g.program.names info.name) g.numbers.tasks
   pub few_tasks : IsInteger (length g.numbers.tasks)
   pub few_entries : IsInteger (length g.numbers.entries)

@@ -1,6 +1,6 @@
 -- What is asked of a normal form, and of the operations of a controller, so that all places of the replay text meet the static rules 1 and 3 to 12
 -- (this project's rule). Which names are old is a test on their ids, and so is which names accepts and loops declare.
-use Rattle.std.specs.Prelude.{◌≡◌, ℕ, ◌≤◌, ◌==◌, Bool, true, false, not, ◌||◌, List, [], ◌∷◌, ◌++◌, Some, None, IfSome, unwrap_or}
+use Rattle.std.specs.Prelude.{◌≡◌, ℕ, ◌≤◌, ◌==◌, Bool, true, false, not, ◌||◌, List, [], ◌∷◌, ◌++◌, length, drop, Some, None, IfSome, unwrap_or}
 use Rattle.std.specs.List.{AllByRecursion, filter}
 use Rattle.ada_tree.specs.declared.naming.NameId.{NameId}
 use Rattle.ada_tree.specs.declared.naming.Word.{Word}
@@ -9,30 +9,29 @@ use Rattle.ada_tree.specs.PlainStmt.{PBody}
 use Rattle.ada_tree.specs.PlainDecl.{OPlain, PInit, IOne, IList, IOthers, PEntry, PDecl, DObject, DTask, DTaskBody, PDecls, decls_of}
 use Rattle.ada_tree.specs.PlainProgram.{PProgram}
 use Rattle.ada_tree.specs.Every.{EveryTask}
-use Rattle.ada_static_rules.specs.StaticValue.{is_integer_value}
 use Rattle.ada_static_rules.specs.Scope.{Scope, truth_kind, EntryPart, SingleTask, Literal, AnException, meaning, entry_named}
 use Rattle.ada_static_rules.specs.Declaring.{first_scope, in_body, inner_scope, after_own_object, after_objects, after_decl, after_decls}
 use Rattle.ada_static_rules.specs.RuleArgCount.{called_entry}
 use Rattle.ada_static_rules.specs.Sites.{own_sites, decl_sites}
+use Rattle.syn_event.specs.declared.numbering.TaskInfo.{TaskInfo}
 use Rattle.syn_event.specs.Numbering.{task_named}
 use Rattle.syn_event.specs.DeclaredTasks.{decl_list}
 use Rattle.task_model.specs.Setting.{Setting, entry_of}
 use Rattle.control_script.specs.declared.Op.{Op}
-use Rattle.control_script.specs.declared.Op.TheVariants.{Go, Done, Join, Hold}
-use Rattle.normal_model.specs.Names.{task_name_at}
 use Rattle.normal_model.specs.Ranges.{kind_name}
 use Rattle.normal_model.specs.RewrittenUnit.{RewrittenUnit}
 use Rattle.normal_model.specs.NormalTree.{main_unit, unit_for}
 use Rattle.legal_programs.specs.asked.Asked.{AskedBody}
-use Rattle.normal_structure.specs.checked.Around.{own_rules}
+use Rattle.normal_laws.specs.structure.checked.Around.{own_rules}
 use Rattle.legal_programs.specs.alike_scopes.Alike.{SameNames}
 use Rattle.legal_programs.specs.alike_scopes.Old.{IsOldExpr, IsOldSubind, IsOldDrange, IsOldShape, AreOldFormals}
 use Rattle.legal_programs.specs.alike_scopes.Laws.{IsMetBut}
 use Rattle.replay_model.specs.Names.{kind_text, argument_text, index_text, control_text, go_text, done_text, hold_text, idle_text, stop_text, rest_text, added_id}
-use Rattle.replay_model.specs.ReplayTree.{is_added_object, is_task, is_body, last_task}
+use Rattle.replay_model.specs.ReplayTree.{is_added_object, is_task, is_body}
+use Rattle.replay_structure.specs.placed.Placeable.{HasLiterals}
 use Rattle.replay_structure.specs.typed.ScopeOf.{AreOuter, IsEntryOf, IsSingle, form_asks}
 use Rattle.replay_structure.specs.typed.Controller.{IsInteger}
-use Rattle.replay_structure.specs.scopes.More.{is_single, AreDoubled, AreEntriesNew, ArePermitsNew, IsReady}
+use Rattle.replay_structure.specs.scopes.More.{is_single, AreDoubled, AreEntriesNew, ArePermitsNew, AreTablesNew, IsReady}
 
 -- ---- names
 
@@ -47,6 +46,7 @@ pub record AreNamesApart (g : Setting) (old inner : ℕ → Bool) : Type 0 where
   pub outer : AreOuter g.program inner
   pub entries : AreEntriesNew g.program old
   pub permits : ArePermitsNew g.program old
+  pub tables : AreTablesNew g.program old
   pub zero : old 0 ≡ true
   pub falses : old false_name ≡ true
   pub kinds : (j : ℕ) → old (kind_name g.types j).0 ≡ true
@@ -155,12 +155,9 @@ abbrev pub MainAlong : PProgram → (ℕ → Bool) → Scope → List PDecl → 
 MainAlong q old c [] = SameNames old c c × IsReady q old c
 MainAlong q old c (x ∷ xs) = SameNames old c c × IsReady q old c × MainAlong q old (after_decl c x) xs
 
--- The operation is of a task up to n, its index is a value of INTEGER, and a task that is waited for is a single one.
-abbrev pub IsOpForm : Setting → (ℕ → Bool) → ℕ → Scope → Op → Type 0
-IsOpForm g old n c (Go t kind arg index) = (t ≤ n) × (is_integer_value index ≡ true)
-IsOpForm g old n c (Done t) = t ≤ n
-IsOpForm g old n c (Join t) = (old (task_name_at g t).0 ≡ true) × IsSingle (meaning c (task_name_at g t))
-IsOpForm g old n c Hold = Prim.Unit {0}
+-- The name of the task is old and means a single task.
+abbrev pub IsSingleTask : (ℕ → Bool) → Scope → TaskInfo → Type 0
+IsSingleTask old c info = (old info.name.0 ≡ true) × IsSingle (meaning c info.name)
 
 -- declarations of main beside tasks and bodies
 abbrev pub plain_decls : PProgram → List PDecl
@@ -204,4 +201,7 @@ pub record IsForm (g : Setting) (old inner : ℕ → Bool) (ops : List Op) (befo
   pub tasking : meaning (last g.program before vars) (record { 0 = 9 }) ≡ Some AnException
   pub form : IsUnitForm (main_unit g) old inner (inner_scope (last g.program before vars))
   pub asked : AskedBody (form_asks old inner) (tt, inner_scope (last g.program before vars)) 1 g.program.body
-  pub ops_form : AllByRecursion (IsOpForm g old (last_task g.numbers) (last g.program before vars)) ops
+  -- the controller: the tables have literals, and tasks beside main can be waited for
+  pub ops_form : AllByRecursion HasLiterals ops
+  pub few_tasks : length g.numbers.tasks ≤ 2147483647
+  pub single : AllByRecursion (IsSingleTask old (last g.program before vars)) (drop 1 g.numbers.tasks)

@@ -1,5 +1,5 @@
 -- What can be used in a replay text is what can be used in the normal form, with more names and with more entries of tasks (this project's rule). The
--- types are the same: no variable of a permit has a range of its own.
+-- types are the same up to the controller's body: no variable of a permit has a range of its own.
 use Rattle.std.specs.Prelude.{◌≡◌, ℕ, ◌==◌, Bool, true, false, List, [], Option, Some, None}
 use Rattle.std.specs.List.{AllByRecursion}
 use Rattle.ada_tree.specs.declared.naming.NameId.{NameId}
@@ -7,8 +7,11 @@ use Rattle.ada_tree.specs.PlainDecl.{PEntry}
 use Rattle.ada_tree.specs.PlainProgram.{PProgram}
 use Rattle.ada_static_rules.specs.StaticValue.{value_named}
 use Rattle.ada_static_rules.specs.Scope.{Scope, single, EntryPart, Thing, SingleTask, meaning, entry_named}
-use Rattle.normal_structure.specs.asked.Pieces.{IsAmong}
-use Rattle.replay_model.specs.Names.{kind_text, argument_text, index_text, never_text, join_text, added_id}
+use Rattle.normal_laws.specs.structure.asked.Pieces.{IsAmong}
+use Rattle.replay_model.specs.declared.tables.columns.Column.{Column}
+use Rattle.replay_model.specs.Names.{kind_text, argument_text, index_text, never_text, join_text, counter_text, added_id}
+use Rattle.replay_model.specs.tables.Columns.{table_name}
+use Rattle.replay_model.specs.Controlling.{control_ids}
 use Rattle.replay_structure.specs.typed.ScopeOf.{IsNumber, HasLists, HasDoubles, double_id}
 use Rattle.replay_structure.specs.typed.Controller.{IsInteger}
 
@@ -58,6 +61,11 @@ module _ (q : PProgram) (old : ℕ → Bool) where
     pub kind : old (added_id q kind_text).0 ≡ false
     pub argument : old (added_id q argument_text).0 ≡ false
     pub index : old (added_id q index_text).0 ≡ false
+
+  -- so have the tables of the controller and its loop parameter
+  pub record AreTablesNew : Type 0 where
+    pub tables : (column : Column) → old (table_name (control_ids q) column).0 ≡ false
+    pub counter : old (added_id q counter_text).0 ≡ false
 
   -- where the variables of a permit are declared INTEGER is what it is before, and their names are those of no constant and of no literal
   pub record IsReady (c : Scope) : Type 0 where

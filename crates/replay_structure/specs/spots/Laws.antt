@@ -15,7 +15,7 @@ use Rattle.run_laws.specs.replaying.Copies.{Spots, IsNumbered, HasOwners}
 use Rattle.replay_model.specs.Names.{go_text, done_text, hold_text, stop_text, rest_text, never_text, join_text, double_text, replay_names, added_id}
 use Rattle.replay_model.specs.ReplayTree.{last_task, normal_setting}
 use Rattle.replay_model.specs.ReplayNumbers.{plain_info, family_info, double_info, numbers_replayed}
-use Rattle.normal_structure.specs.types.Laws.{IsOrdered}
+use Rattle.normal_laws.specs.structure.types.Laws.{IsOrdered}
 use Rattle.replay_structure.specs.spots.Places.{entries_from, spots_by, text_spots}
 
 -- The entries of a program are numbered task by task, and none is one of main.

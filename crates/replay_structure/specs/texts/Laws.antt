@@ -15,10 +15,10 @@ use Rattle.replay_model.specs.ReplayNumbers.{replay_numbers}
 use Rattle.legal_programs.specs.rewritten_types.Agreement.{Rooted, Agrees}
 use Rattle.legal_programs.specs.rewritten_types.Laws.{behind}
 use Rattle.legal_programs.specs.rewritten_values.Values.{old_names}
-use Rattle.normal_structure.specs.types.Own.{own_name}
-use Rattle.normal_structure.specs.types.Laws.{IsOrdered, AreOwn}
-use Rattle.normal_structure.specs.numbers.Laws.{NoneIsDed}
-use Rattle.normalisable.specs.Laws.{IsLegalOriginal}
+use Rattle.normal_laws.specs.structure.types.Own.{own_name}
+use Rattle.normal_laws.specs.structure.types.Laws.{IsOrdered, AreOwn}
+use Rattle.normal_laws.specs.structure.numbers.Laws.{NoneIsDed}
+use Rattle.normal_laws.specs.existence.Laws.{IsLegalOriginal}
 
 -- ---- types
 

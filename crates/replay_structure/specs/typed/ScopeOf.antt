@@ -24,7 +24,7 @@ use Rattle.normal_model.specs.Ranges.{kind_of_range, kind_name, family_range}
 use Rattle.normal_model.specs.RewrittenUnit.{RewrittenUnit}
 use Rattle.legal_programs.specs.asked.Asked.{Asks}
 use Rattle.legal_programs.specs.asked.Kinds.{place_asks, type_asks, both}
-use Rattle.normal_structure.specs.checked.Around.{own_rules}
+use Rattle.normal_laws.specs.structure.checked.Around.{own_rules}
 use Rattle.legal_programs.specs.alike_scopes.Laws.{IsMetBut}
 use Rattle.legal_programs.specs.alike_scopes.Alike.{Alike}
 use Rattle.replay_model.specs.Names.{kind_text, argument_text, index_text, control_text, go_text, done_text, idle_text, stop_text, never_text, double_text, added_id}
@@ -89,6 +89,7 @@ pub data IsCountedBy (types : TypeTable) (inner : ℕ → Bool) (d : Scope) (j k
 -- the range of the family of that number has values of the kind k
 pub record IsFamilyOf (g : Setting) (inner : ℕ → Bool) (d : Scope) (e k : ℕ) : Type 0 where
   pub written : PDrange
+  pub flag : is_family g.numbers e ≡ true
   pub is : family_range g e ≡ Some written
   pub counted : IsCountedBy g.types inner d (kind_of_range g.types written) k
 

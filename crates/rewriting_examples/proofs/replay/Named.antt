@@ -35,8 +35,8 @@ use Rattle.task_model.specs.Laws.{IsProper}
 use Rattle.task_model.proofs.Lawful.{lawful}
 use Rattle.task_model.proofs.Following as following
 use Rattle.run_laws.specs.imitation.Shown.{Opened, end_from}
-use Rattle.normal_runs.specs.runs.Laws.{opened}
-use Rattle.normal_runs.specs.forms.Normalisable.{numbers_of}
+use Rattle.normal_laws.specs.runs.runs.Laws.{opened}
+use Rattle.normal_laws.specs.runs.forms.Normalisable.{numbers_of}
 use Rattle.replay_is_legal.specs.Laws.{text_for}
 use Rattle.replay_runs.specs.controls.replayed.Replaying.{output_after, IsRunWith, IsFeasible, IsOver, shown, starting}
 use Rattle.rewriting_examples.specs.normal.Showing.{outputs_of}

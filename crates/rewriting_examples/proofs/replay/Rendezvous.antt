@@ -4,9 +4,9 @@ use Rattle.std.specs.Fmt.{digits}
 use Rattle.ada_tree.specs.NameList.{predefined}
 use Rattle.ada_tree.specs.declared.expressions.BinaryOp.TheVariants as binary
 use Rattle.ada_tree.specs.declared.statements.ParMode.TheVariants as mode
-use Rattle.ada_tree.specs.PlainExpr.{EInteger, EBinary, RGiven}
-use Rattle.ada_tree.specs.PlainStmt.{SNull, SAssign, SRaise, SCall, SAccept, SWait, SIf, SBlock, no_stmt, stmt_then, absent, present, accepting, alternative, AAccept, ATerminate, no_alt, alt_then, arm, no_arm, arm_then, body, handler, no_handler, handler_then}
-use Rattle.ada_tree.specs.PlainDecl.{OPlain, IOne, DObject, DTask, DTaskBody, no_decl, decl_then}
+use Rattle.ada_tree.specs.PlainExpr.{EInteger, EBinary, RGiven, EIndex}
+use Rattle.ada_tree.specs.PlainStmt.{SNull, SAssign, SRaise, SCall, SAccept, SWait, SIf, SBlock, no_stmt, stmt_then, absent, present, accepting, alternative, AAccept, ATerminate, no_alt, alt_then, arm, no_arm, arm_then, body, handler, no_handler, handler_then, LFor, SCase, SLoop, case_arm, no_case_arm, case_arm_then}
+use Rattle.ada_tree.specs.PlainDecl.{OPlain, IOne, DObject, DTask, DTaskBody, no_decl, decl_then, OArray, IList}
 use Rattle.ada_tree.specs.PlainProgram.{PProgram}
 use Rattle.ada_static_rules.specs.Refusals.{refusals}
 use Rattle.event_machine.specs.declared.Event.{Event}
@@ -89,40 +89,36 @@ p1_events = event.R 0 1 (pos 0) ∷ event.E 1 ∷ event.X 1 ∷ event.Z ∷ []
 --       end if;
 --    end B;
 --    task body DED_CONTROL is
+--       DED_OPS : constant array (1 .. 8) of INTEGER := (1, 1, 2, 1, 2, 1, 3, 1);
+--       DED_TS : constant array (1 .. 8) of INTEGER := (0, 1, 1, 1, 1, 1, 1, 0);
+--       DED_KS : constant array (1 .. 8) of INTEGER := (1, 1, 0, 2, 0, 8, 0, 10);
+--       DED_AS : constant array (1 .. 8) of INTEGER := (1, 1, 0, 0, 0, 0, 0, 0);
+--       DED_IS : constant array (1 .. 8) of INTEGER := (0, 0, 0, 0, 0, 0, 0, 0);
 --    begin
---       accept GO(0)(DED_K, DED_A, DED_I : out INTEGER) do
---          DED_K := 1;
---          DED_A := 1;
---          DED_I := 0;
---       end GO;
---       accept GO(1)(DED_K, DED_A, DED_I : out INTEGER) do
---          DED_K := 1;
---          DED_A := 1;
---          DED_I := 0;
---       end GO;
---       accept DONE(1);
---       accept GO(1)(DED_K, DED_A, DED_I : out INTEGER) do
---          DED_K := 2;
---          DED_A := 0;
---          DED_I := 0;
---       end GO;
---       accept DONE(1);
---       accept GO(1)(DED_K, DED_A, DED_I : out INTEGER) do
---          DED_K := 8;
---          DED_A := 0;
---          DED_I := 0;
---       end GO;
---       begin
---          B.DED_JOIN;
---       exception
---          when TASKING_ERROR =>
---             null;
---       end;
---       accept GO(0)(DED_K, DED_A, DED_I : out INTEGER) do
---          DED_K := 10;
---          DED_A := 0;
---          DED_I := 0;
---       end GO;
+--       for DED_N in 1 .. 8 loop
+--          case DED_OPS(DED_N) is
+--             when 1 =>
+--                accept GO(DED_TS(DED_N))(DED_K, DED_A, DED_I : out INTEGER) do
+--                   DED_K := DED_KS(DED_N);
+--                   DED_A := DED_AS(DED_N);
+--                   DED_I := DED_IS(DED_N);
+--                end GO;
+--             when 2 =>
+--                accept DONE(DED_TS(DED_N));
+--             when others =>
+--                case DED_TS(DED_N) is
+--                   when 1 =>
+--                      begin
+--                         B.DED_JOIN;
+--                      exception
+--                         when TASKING_ERROR =>
+--                            null;
+--                      end;
+--                   when others =>
+--                      null;
+--                end case;
+--          end case;
+--       end loop;
 --    end DED_CONTROL;
 --    task body DED_IDLE is
 --    begin
@@ -158,7 +154,7 @@ p1_events = event.R 0 1 (pos 0) ∷ event.E 1 ∷ event.X 1 ∷ event.Z ∷ []
 --    end if;
 -- end P1;
 abbrev p1_replay : PProgram
-p1_replay = record { names = (predefined ++ (codes "P1" ∷ codes "B" ∷ codes "DED_K" ∷ codes "DED_A" ∷ codes "DED_I" ∷ codes "DED_CONTROL" ∷ codes "GO" ∷ codes "DONE" ∷ codes "HOLD" ∷ codes "DED_IDLE" ∷ codes "STOP" ∷ codes "NEVER" ∷ codes "DED_NEVER" ∷ codes "DED_JOIN" ∷ codes "DED_S_PUT" ∷ [])); text_io = false; name = (w 25); decls = (decl_then (DObject ((w 27) ∷ (w 28) ∷ (w 29) ∷ []) false (OPlain (record { mark = (w 0); bounds = None })) (Some (IOne (EInteger 0 o))) o) (decl_then (DTask (record { name = (w 26); of_kind = false; entries = ((record { name = (w 14); family = None; formals = ([]); span = o }) ∷ (record { name = (w 39); family = None; formals = ([]); span = o }) ∷ (record { name = (w 37); family = None; formals = ([]); span = o }) ∷ (record { name = (w 38); family = None; formals = ([]); span = o }) ∷ []); priorities = ([]) }) o) (decl_then (DTask (record { name = (w 30); of_kind = false; entries = ((record { name = (w 31); family = (Some (RGiven (record { first = (EInteger 0 o); last = (EInteger 1 o) }))); formals = ((record { names = ((w 27) ∷ (w 28) ∷ (w 29) ∷ []); mode = mode.Give; mark = (w 0) }) ∷ []); span = o }) ∷ (record { name = (w 32); family = (Some (RGiven (record { first = (EInteger 0 o); last = (EInteger 1 o) }))); formals = ([]); span = o }) ∷ (record { name = (w 33); family = None; formals = ([]); span = o }) ∷ []); priorities = ([]) }) o) (decl_then (DTask (record { name = (w 34); of_kind = false; entries = ((record { name = (w 35); family = None; formals = ([]); span = o }) ∷ (record { name = (w 36); family = None; formals = ([]); span = o }) ∷ []); priorities = ([]) }) o) (decl_then (DTaskBody (w 26) (decl_then (DObject ((w 27) ∷ (w 28) ∷ (w 29) ∷ []) false (OPlain (record { mark = (w 0); bounds = None })) (Some (IOne (EInteger 0 o))) o) no_decl) (body (stmt_then (SBlock (body (stmt_then (SCall (record { task = (record { name = (w 30); index = None }); entry = (w 31); args = (Some (record { first = ((EInteger 1 o) ∷ []); second = (Some ((n 27) ∷ (n 28) ∷ (n 29) ∷ [])) })) }) o) (stmt_then (SIf (arm_then (arm (EBinary binary.And (EBinary binary.And (EBinary binary.Equal (n 27) (EInteger 1 o) o) (EBinary binary.Equal (n 28) (EInteger 1 o) o) o) (EBinary binary.Equal (n 29) (EInteger 0 o) o) o) (stmt_then (SAccept (accepting (record { entry = (w 14); index = None; formals = ([]); span = o }) (present (stmt_then (SCall (record { task = (record { name = (w 30); index = None }); entry = (w 32); args = (Some (record { first = ((EInteger 1 o) ∷ []); second = None })) }) o) (stmt_then (SCall (record { task = (record { name = (w 30); index = None }); entry = (w 31); args = (Some (record { first = ((EInteger 1 o) ∷ []); second = (Some ((n 27) ∷ (n 28) ∷ (n 29) ∷ [])) })) }) o) (stmt_then (SIf (arm_then (arm (EBinary binary.NotEqual (n 27) (EInteger 2 o) o) (stmt_then (SCall (record { task = (record { name = (w 34); index = None }); entry = (w 35); args = None }) o) no_stmt)) no_arm) absent o) no_stmt))))) o) (stmt_then (SCall (record { task = (record { name = (w 30); index = None }); entry = (w 32); args = (Some (record { first = ((EInteger 1 o) ∷ []); second = None })) }) o) no_stmt))) no_arm) (present (stmt_then (SCall (record { task = (record { name = (w 34); index = None }); entry = (w 35); args = None }) o) no_stmt)) o) no_stmt)) (handler_then (handler ([]) (stmt_then (SNull o) no_stmt) o) no_handler)) o) (stmt_then (SCall (record { task = (record { name = (w 30); index = None }); entry = (w 31); args = (Some (record { first = ((EInteger 1 o) ∷ []); second = (Some ((n 27) ∷ (n 28) ∷ (n 29) ∷ [])) })) }) o) (stmt_then (SIf (arm_then (arm (EBinary binary.NotEqual (n 27) (EInteger 8 o) o) (stmt_then (SCall (record { task = (record { name = (w 34); index = None }); entry = (w 35); args = None }) o) no_stmt)) no_arm) absent o) no_stmt))) no_handler) o) (decl_then (DTaskBody (w 30) no_decl (body (stmt_then (SAccept (accepting (record { entry = (w 31); index = (Some (EInteger 0 o)); formals = ((record { names = ((w 27) ∷ (w 28) ∷ (w 29) ∷ []); mode = mode.Give; mark = (w 0) }) ∷ []); span = o }) (present (stmt_then (SAssign (record { name = (w 27); index = None }) (EInteger 1 o) o) (stmt_then (SAssign (record { name = (w 28); index = None }) (EInteger 1 o) o) (stmt_then (SAssign (record { name = (w 29); index = None }) (EInteger 0 o) o) no_stmt))))) o) (stmt_then (SAccept (accepting (record { entry = (w 31); index = (Some (EInteger 1 o)); formals = ((record { names = ((w 27) ∷ (w 28) ∷ (w 29) ∷ []); mode = mode.Give; mark = (w 0) }) ∷ []); span = o }) (present (stmt_then (SAssign (record { name = (w 27); index = None }) (EInteger 1 o) o) (stmt_then (SAssign (record { name = (w 28); index = None }) (EInteger 1 o) o) (stmt_then (SAssign (record { name = (w 29); index = None }) (EInteger 0 o) o) no_stmt))))) o) (stmt_then (SAccept (accepting (record { entry = (w 32); index = (Some (EInteger 1 o)); formals = ([]); span = o }) absent) o) (stmt_then (SAccept (accepting (record { entry = (w 31); index = (Some (EInteger 1 o)); formals = ((record { names = ((w 27) ∷ (w 28) ∷ (w 29) ∷ []); mode = mode.Give; mark = (w 0) }) ∷ []); span = o }) (present (stmt_then (SAssign (record { name = (w 27); index = None }) (EInteger 2 o) o) (stmt_then (SAssign (record { name = (w 28); index = None }) (EInteger 0 o) o) (stmt_then (SAssign (record { name = (w 29); index = None }) (EInteger 0 o) o) no_stmt))))) o) (stmt_then (SAccept (accepting (record { entry = (w 32); index = (Some (EInteger 1 o)); formals = ([]); span = o }) absent) o) (stmt_then (SAccept (accepting (record { entry = (w 31); index = (Some (EInteger 1 o)); formals = ((record { names = ((w 27) ∷ (w 28) ∷ (w 29) ∷ []); mode = mode.Give; mark = (w 0) }) ∷ []); span = o }) (present (stmt_then (SAssign (record { name = (w 27); index = None }) (EInteger 8 o) o) (stmt_then (SAssign (record { name = (w 28); index = None }) (EInteger 0 o) o) (stmt_then (SAssign (record { name = (w 29); index = None }) (EInteger 0 o) o) no_stmt))))) o) (stmt_then (SBlock (body (stmt_then (SCall (record { task = (record { name = (w 26); index = None }); entry = (w 38); args = None }) o) no_stmt) (handler_then (handler ((w 9) ∷ []) (stmt_then (SNull o) no_stmt) o) no_handler)) o) (stmt_then (SAccept (accepting (record { entry = (w 31); index = (Some (EInteger 0 o)); formals = ((record { names = ((w 27) ∷ (w 28) ∷ (w 29) ∷ []); mode = mode.Give; mark = (w 0) }) ∷ []); span = o }) (present (stmt_then (SAssign (record { name = (w 27); index = None }) (EInteger 10 o) o) (stmt_then (SAssign (record { name = (w 28); index = None }) (EInteger 0 o) o) (stmt_then (SAssign (record { name = (w 29); index = None }) (EInteger 0 o) o) no_stmt))))) o) no_stmt)))))))) no_handler) o) (decl_then (DTaskBody (w 34) no_decl (body (stmt_then (SWait (alt_then (alternative None (AAccept (accepting (record { entry = (w 36); index = None; formals = ([]); span = o }) absent) no_stmt) o) (alt_then (alternative None ATerminate o) no_alt)) absent o) no_stmt) no_handler) o) no_decl))))))); body = (body (stmt_then (SBlock (body (stmt_then (SCall (record { task = (record { name = (w 30); index = None }); entry = (w 31); args = (Some (record { first = ((EInteger 0 o) ∷ []); second = (Some ((n 27) ∷ (n 28) ∷ (n 29) ∷ [])) })) }) o) (stmt_then (SIf (arm_then (arm (EBinary binary.And (EBinary binary.And (EBinary binary.Equal (n 27) (EInteger 1 o) o) (EBinary binary.Equal (n 28) (EInteger 1 o) o) o) (EBinary binary.Equal (n 29) (EInteger 0 o) o) o) (stmt_then (SCall (record { task = (record { name = (w 26); index = None }); entry = (w 14); args = None }) o) no_stmt)) (arm_then (arm (EBinary binary.And (EBinary binary.And (EBinary binary.Equal (n 27) (EInteger 7 o) o) (EBinary binary.Equal (n 28) (EInteger 1 o) o) o) (EBinary binary.Equal (n 29) (EInteger 0 o) o) o) (stmt_then (SBlock (body (stmt_then (SCall (record { task = (record { name = (w 26); index = None }); entry = (w 39); args = None }) o) no_stmt) (handler_then (handler ([]) (stmt_then (SCall (record { task = (record { name = (w 30); index = None }); entry = (w 32); args = (Some (record { first = ((EInteger 0 o) ∷ []); second = None })) }) o) (stmt_then (SRaise None o) no_stmt)) o) no_handler)) o) no_stmt)) no_arm)) (present (stmt_then (SCall (record { task = (record { name = (w 34); index = None }); entry = (w 35); args = None }) o) no_stmt)) o) no_stmt)) (handler_then (handler ([]) (stmt_then (SNull o) no_stmt) o) no_handler)) o) (stmt_then (SCall (record { task = (record { name = (w 30); index = None }); entry = (w 31); args = (Some (record { first = ((EInteger 0 o) ∷ []); second = (Some ((n 27) ∷ (n 28) ∷ (n 29) ∷ [])) })) }) o) (stmt_then (SIf (arm_then (arm (EBinary binary.NotEqual (n 27) (EInteger 10 o) o) (stmt_then (SCall (record { task = (record { name = (w 34); index = None }); entry = (w 35); args = None }) o) no_stmt)) no_arm) absent o) no_stmt))) no_handler) }
+p1_replay = record { names = (predefined ++ (codes "P1" ∷ codes "B" ∷ codes "DED_K" ∷ codes "DED_A" ∷ codes "DED_I" ∷ codes "DED_CONTROL" ∷ codes "GO" ∷ codes "DONE" ∷ codes "HOLD" ∷ codes "DED_IDLE" ∷ codes "STOP" ∷ codes "NEVER" ∷ codes "DED_NEVER" ∷ codes "DED_JOIN" ∷ codes "DED_OPS" ∷ codes "DED_TS" ∷ codes "DED_KS" ∷ codes "DED_AS" ∷ codes "DED_IS" ∷ codes "DED_N" ∷ codes "DED_S_PUT" ∷ [])); text_io = false; name = (w 25); decls = (decl_then (DObject ((w 27) ∷ (w 28) ∷ (w 29) ∷ []) false (OPlain (record { mark = (w 0); bounds = None })) (Some (IOne (EInteger 0 o))) o) (decl_then (DTask (record { name = (w 26); of_kind = false; entries = ((record { name = (w 14); family = None; formals = ([]); span = o }) ∷ (record { name = (w 45); family = None; formals = ([]); span = o }) ∷ (record { name = (w 37); family = None; formals = ([]); span = o }) ∷ (record { name = (w 38); family = None; formals = ([]); span = o }) ∷ []); priorities = ([]) }) o) (decl_then (DTask (record { name = (w 30); of_kind = false; entries = ((record { name = (w 31); family = (Some (RGiven (record { first = (EInteger 0 o); last = (EInteger 1 o) }))); formals = ((record { names = ((w 27) ∷ (w 28) ∷ (w 29) ∷ []); mode = mode.Give; mark = (w 0) }) ∷ []); span = o }) ∷ (record { name = (w 32); family = (Some (RGiven (record { first = (EInteger 0 o); last = (EInteger 1 o) }))); formals = ([]); span = o }) ∷ (record { name = (w 33); family = None; formals = ([]); span = o }) ∷ []); priorities = ([]) }) o) (decl_then (DTask (record { name = (w 34); of_kind = false; entries = ((record { name = (w 35); family = None; formals = ([]); span = o }) ∷ (record { name = (w 36); family = None; formals = ([]); span = o }) ∷ []); priorities = ([]) }) o) (decl_then (DTaskBody (w 26) (decl_then (DObject ((w 27) ∷ (w 28) ∷ (w 29) ∷ []) false (OPlain (record { mark = (w 0); bounds = None })) (Some (IOne (EInteger 0 o))) o) no_decl) (body (stmt_then (SBlock (body (stmt_then (SCall (record { task = (record { name = (w 30); index = None }); entry = (w 31); args = (Some (record { first = ((EInteger 1 o) ∷ []); second = (Some ((n 27) ∷ (n 28) ∷ (n 29) ∷ [])) })) }) o) (stmt_then (SIf (arm_then (arm (EBinary binary.And (EBinary binary.And (EBinary binary.Equal (n 27) (EInteger 1 o) o) (EBinary binary.Equal (n 28) (EInteger 1 o) o) o) (EBinary binary.Equal (n 29) (EInteger 0 o) o) o) (stmt_then (SAccept (accepting (record { entry = (w 14); index = None; formals = ([]); span = o }) (present (stmt_then (SCall (record { task = (record { name = (w 30); index = None }); entry = (w 32); args = (Some (record { first = ((EInteger 1 o) ∷ []); second = None })) }) o) (stmt_then (SCall (record { task = (record { name = (w 30); index = None }); entry = (w 31); args = (Some (record { first = ((EInteger 1 o) ∷ []); second = (Some ((n 27) ∷ (n 28) ∷ (n 29) ∷ [])) })) }) o) (stmt_then (SIf (arm_then (arm (EBinary binary.NotEqual (n 27) (EInteger 2 o) o) (stmt_then (SCall (record { task = (record { name = (w 34); index = None }); entry = (w 35); args = None }) o) no_stmt)) no_arm) absent o) no_stmt))))) o) (stmt_then (SCall (record { task = (record { name = (w 30); index = None }); entry = (w 32); args = (Some (record { first = ((EInteger 1 o) ∷ []); second = None })) }) o) no_stmt))) no_arm) (present (stmt_then (SCall (record { task = (record { name = (w 34); index = None }); entry = (w 35); args = None }) o) no_stmt)) o) no_stmt)) (handler_then (handler ([]) (stmt_then (SNull o) no_stmt) o) no_handler)) o) (stmt_then (SCall (record { task = (record { name = (w 30); index = None }); entry = (w 31); args = (Some (record { first = ((EInteger 1 o) ∷ []); second = (Some ((n 27) ∷ (n 28) ∷ (n 29) ∷ [])) })) }) o) (stmt_then (SIf (arm_then (arm (EBinary binary.NotEqual (n 27) (EInteger 8 o) o) (stmt_then (SCall (record { task = (record { name = (w 34); index = None }); entry = (w 35); args = None }) o) no_stmt)) no_arm) absent o) no_stmt))) no_handler) o) (decl_then (DTaskBody (w 30) (decl_then (DObject ((w 39) ∷ []) true (OArray (RGiven (record { first = (EInteger 1 o); last = (EInteger 8 o) })) (record { mark = (w 0); bounds = None })) (Some (IList ((EInteger 1 o) ∷ (EInteger 1 o) ∷ (EInteger 2 o) ∷ (EInteger 1 o) ∷ (EInteger 2 o) ∷ (EInteger 1 o) ∷ (EInteger 3 o) ∷ (EInteger 1 o) ∷ []) o)) o) (decl_then (DObject ((w 40) ∷ []) true (OArray (RGiven (record { first = (EInteger 1 o); last = (EInteger 8 o) })) (record { mark = (w 0); bounds = None })) (Some (IList ((EInteger 0 o) ∷ (EInteger 1 o) ∷ (EInteger 1 o) ∷ (EInteger 1 o) ∷ (EInteger 1 o) ∷ (EInteger 1 o) ∷ (EInteger 1 o) ∷ (EInteger 0 o) ∷ []) o)) o) (decl_then (DObject ((w 41) ∷ []) true (OArray (RGiven (record { first = (EInteger 1 o); last = (EInteger 8 o) })) (record { mark = (w 0); bounds = None })) (Some (IList ((EInteger 1 o) ∷ (EInteger 1 o) ∷ (EInteger 0 o) ∷ (EInteger 2 o) ∷ (EInteger 0 o) ∷ (EInteger 8 o) ∷ (EInteger 0 o) ∷ (EInteger 10 o) ∷ []) o)) o) (decl_then (DObject ((w 42) ∷ []) true (OArray (RGiven (record { first = (EInteger 1 o); last = (EInteger 8 o) })) (record { mark = (w 0); bounds = None })) (Some (IList ((EInteger 1 o) ∷ (EInteger 1 o) ∷ (EInteger 0 o) ∷ (EInteger 0 o) ∷ (EInteger 0 o) ∷ (EInteger 0 o) ∷ (EInteger 0 o) ∷ (EInteger 0 o) ∷ []) o)) o) (decl_then (DObject ((w 43) ∷ []) true (OArray (RGiven (record { first = (EInteger 1 o); last = (EInteger 8 o) })) (record { mark = (w 0); bounds = None })) (Some (IList ((EInteger 0 o) ∷ (EInteger 0 o) ∷ (EInteger 0 o) ∷ (EInteger 0 o) ∷ (EInteger 0 o) ∷ (EInteger 0 o) ∷ (EInteger 0 o) ∷ (EInteger 0 o) ∷ []) o)) o) no_decl))))) (body (stmt_then (SLoop None (Some (LFor (w 44) false (RGiven (record { first = (EInteger 1 o); last = (EInteger 8 o) })))) (stmt_then (SCase (EIndex (w 39) (n 44) o) (case_arm_then (case_arm ((record { first = (EInteger 1 o); last = None }) ∷ []) (stmt_then (SAccept (accepting (record { entry = (w 31); index = (Some (EIndex (w 40) (n 44) o)); formals = ((record { names = ((w 27) ∷ (w 28) ∷ (w 29) ∷ []); mode = mode.Give; mark = (w 0) }) ∷ []); span = o }) (present (stmt_then (SAssign (record { name = (w 27); index = None }) (EIndex (w 41) (n 44) o) o) (stmt_then (SAssign (record { name = (w 28); index = None }) (EIndex (w 42) (n 44) o) o) (stmt_then (SAssign (record { name = (w 29); index = None }) (EIndex (w 43) (n 44) o) o) no_stmt))))) o) no_stmt)) (case_arm_then (case_arm ((record { first = (EInteger 2 o); last = None }) ∷ []) (stmt_then (SAccept (accepting (record { entry = (w 32); index = (Some (EIndex (w 40) (n 44) o)); formals = ([]); span = o }) absent) o) no_stmt)) no_case_arm)) (present (stmt_then (SCase (EIndex (w 40) (n 44) o) (case_arm_then (case_arm ((record { first = (EInteger 1 o); last = None }) ∷ []) (stmt_then (SBlock (body (stmt_then (SCall (record { task = (record { name = (w 26); index = None }); entry = (w 38); args = None }) o) no_stmt) (handler_then (handler ((w 9) ∷ []) (stmt_then (SNull o) no_stmt) o) no_handler)) o) no_stmt)) no_case_arm) (present (stmt_then (SNull o) no_stmt)) o) no_stmt)) o) no_stmt) o) no_stmt) no_handler) o) (decl_then (DTaskBody (w 34) no_decl (body (stmt_then (SWait (alt_then (alternative None (AAccept (accepting (record { entry = (w 36); index = None; formals = ([]); span = o }) absent) no_stmt) o) (alt_then (alternative None ATerminate o) no_alt)) absent o) no_stmt) no_handler) o) no_decl))))))); body = (body (stmt_then (SBlock (body (stmt_then (SCall (record { task = (record { name = (w 30); index = None }); entry = (w 31); args = (Some (record { first = ((EInteger 0 o) ∷ []); second = (Some ((n 27) ∷ (n 28) ∷ (n 29) ∷ [])) })) }) o) (stmt_then (SIf (arm_then (arm (EBinary binary.And (EBinary binary.And (EBinary binary.Equal (n 27) (EInteger 1 o) o) (EBinary binary.Equal (n 28) (EInteger 1 o) o) o) (EBinary binary.Equal (n 29) (EInteger 0 o) o) o) (stmt_then (SCall (record { task = (record { name = (w 26); index = None }); entry = (w 14); args = None }) o) no_stmt)) (arm_then (arm (EBinary binary.And (EBinary binary.And (EBinary binary.Equal (n 27) (EInteger 7 o) o) (EBinary binary.Equal (n 28) (EInteger 1 o) o) o) (EBinary binary.Equal (n 29) (EInteger 0 o) o) o) (stmt_then (SBlock (body (stmt_then (SCall (record { task = (record { name = (w 26); index = None }); entry = (w 45); args = None }) o) no_stmt) (handler_then (handler ([]) (stmt_then (SCall (record { task = (record { name = (w 30); index = None }); entry = (w 32); args = (Some (record { first = ((EInteger 0 o) ∷ []); second = None })) }) o) (stmt_then (SRaise None o) no_stmt)) o) no_handler)) o) no_stmt)) no_arm)) (present (stmt_then (SCall (record { task = (record { name = (w 34); index = None }); entry = (w 35); args = None }) o) no_stmt)) o) no_stmt)) (handler_then (handler ([]) (stmt_then (SNull o) no_stmt) o) no_handler)) o) (stmt_then (SCall (record { task = (record { name = (w 30); index = None }); entry = (w 31); args = (Some (record { first = ((EInteger 0 o) ∷ []); second = (Some ((n 27) ∷ (n 28) ∷ (n 29) ∷ [])) })) }) o) (stmt_then (SIf (arm_then (arm (EBinary binary.NotEqual (n 27) (EInteger 10 o) o) (stmt_then (SCall (record { task = (record { name = (w 34); index = None }); entry = (w 35); args = None }) o) no_stmt)) no_arm) absent o) no_stmt))) no_handler) }
 
 p1_is_replayed : replay_in p1 p1_events ≡ p1_replay
 unfolding digits

@@ -8,7 +8,7 @@ use Rattle.event_machine.specs.declared.Event.{Event}
 use Rattle.event_machine.specs.declared.Event.TheVariants.{R, E, C, T, X, Z}
 use Rattle.syn_event.specs.Origin.{back_of}
 use Rattle.run_laws.specs.imitation.Shown.{end_from}
-use Rattle.normal_runs.specs.forms.Normalisable.{numbers_of}
+use Rattle.normal_laws.specs.runs.forms.Normalisable.{numbers_of}
 use Rattle.replay_is_legal.specs.Laws.{text_for}
 use Rattle.replay_runs.specs.controls.replayed.Replaying.{output_after, Replays, starting}
 use Rattle.rewriting_examples.specs.replay.Runs.{text, ShowsBy, GoesOnBy, EndsBy, HasParts}
@@ -29,8 +29,8 @@ p1_run = Arrive 0 ∷ Arrive 1 ∷ Start 0 ∷ Finish 1 ∷ Complete 1 ∷ End �
 -- The text up to where both parties have their permits for the first event.
 abbrev p1_before : List Action
 p1_before =
-    Local 0 ∷ Arrive 0 ∷ Local 1 ∷ Arrive 1 ∷ Arrive 2 ∷ Start 0 ∷ Local 2 ∷ Local 2 ∷ Local 2 ∷ Finish 2 ∷ Local 0 ∷ Arrive 0 ∷ Arrive 2 ∷ Start 1 ∷
-    Local 2 ∷ Local 2 ∷ Local 2 ∷ Finish 2 ∷ Local 1 ∷ Arrive 1 ∷ []
+    Local 0 ∷ Arrive 0 ∷ Local 1 ∷ Arrive 1 ∷ Local 2 ∷ Local 2 ∷ Arrive 2 ∷ Start 0 ∷ Local 2 ∷ Local 2 ∷ Local 2 ∷ Finish 2 ∷ Local 0 ∷ Arrive 0 ∷
+    Local 2 ∷ Local 2 ∷ Arrive 2 ∷ Start 1 ∷ Local 2 ∷ Local 2 ∷ Local 2 ∷ Finish 2 ∷ Local 1 ∷ Arrive 1 ∷ []
 
 -- The same with that event.
 abbrev p1_front : List Action
@@ -39,9 +39,10 @@ p1_front = p1_before ++ Start 0 ∷ []
 -- From there to its end.
 abbrev p1_more : List Action
 p1_more =
-    Arrive 1 ∷ Arrive 2 ∷ Start 1 ∷ Finish 2 ∷ Arrive 1 ∷ Arrive 2 ∷ Start 1 ∷ Local 2 ∷ Local 2 ∷ Local 2 ∷ Finish 2 ∷ Local 1 ∷ Finish 1 ∷
-    Arrive 0 ∷ Arrive 1 ∷ Arrive 2 ∷ Start 1 ∷ Finish 2 ∷ Arrive 1 ∷ Arrive 2 ∷ Start 1 ∷ Local 2 ∷ Local 2 ∷ Local 2 ∷ Finish 2 ∷ Local 1 ∷
-    Complete 1 ∷ Local 2 ∷ Fail 2 ∷ Local 2 ∷ Arrive 2 ∷ Start 0 ∷ Local 2 ∷ Local 2 ∷ Local 2 ∷ Finish 2 ∷ Complete 2 ∷ Local 0 ∷ Arrive 3 ∷ End ∷ []
+    Arrive 1 ∷ Local 2 ∷ Local 2 ∷ Arrive 2 ∷ Start 1 ∷ Finish 2 ∷ Arrive 1 ∷ Local 2 ∷ Local 2 ∷ Arrive 2 ∷ Start 1 ∷ Local 2 ∷ Local 2 ∷ Local 2 ∷
+    Finish 2 ∷ Local 1 ∷ Finish 1 ∷ Arrive 0 ∷ Arrive 1 ∷ Local 2 ∷ Local 2 ∷ Arrive 2 ∷ Start 1 ∷ Finish 2 ∷ Arrive 1 ∷ Local 2 ∷ Local 2 ∷
+    Arrive 2 ∷ Start 1 ∷ Local 2 ∷ Local 2 ∷ Local 2 ∷ Finish 2 ∷ Local 1 ∷ Complete 1 ∷ Local 2 ∷ Local 2 ∷ Local 2 ∷ Local 2 ∷ Fail 2 ∷ Local 2 ∷
+    Local 2 ∷ Local 2 ∷ Arrive 2 ∷ Start 0 ∷ Local 2 ∷ Local 2 ∷ Local 2 ∷ Finish 2 ∷ Local 2 ∷ Complete 2 ∷ Local 0 ∷ Arrive 3 ∷ End ∷ []
 
 abbrev p1_whole : List Action
 p1_whole = p1_front ++ p1_more
@@ -87,7 +88,7 @@ p1_parts = has_parts p1 p1_events [] (R 0 1 (pos 0) ∷ []) (E 1 ∷ X 1 ∷ Z �
 
 -- The text from both permits until it can go on no more.
 abbrev p1_held_more : List Action
-p1_held_more = Start 0 ∷ Arrive 1 ∷ Arrive 2 ∷ Start 1 ∷ Finish 2 ∷ Arrive 1 ∷ Arrive 2 ∷ Arrive 3 ∷ []
+p1_held_more = Start 0 ∷ Arrive 1 ∷ Local 2 ∷ Local 2 ∷ Arrive 2 ∷ Start 1 ∷ Finish 2 ∷ Arrive 1 ∷ Local 2 ∷ Arrive 2 ∷ Arrive 3 ∷ []
 
 abbrev p1_held_whole : List Action
 p1_held_whole = p1_before ++ p1_held_more
@@ -142,8 +143,8 @@ calls_run = CallElse 2 ∷ Local 0 ∷ Arrive 1 ∷ Local 2 ∷ Arrive 2 ∷ Exp
 -- The text up to where the caller has its permit for the first event.
 abbrev calls_before : List Action
 calls_before =
-    Local 0 ∷ Local 0 ∷ Arrive 0 ∷ Local 1 ∷ Arrive 1 ∷ Local 2 ∷ Local 2 ∷ Local 2 ∷ Local 2 ∷ Arrive 2 ∷ Arrive 3 ∷ Start 2 ∷ Local 3 ∷ Local 3 ∷
-    Local 3 ∷ Finish 3 ∷ Local 2 ∷ []
+    Local 0 ∷ Local 0 ∷ Arrive 0 ∷ Local 1 ∷ Arrive 1 ∷ Local 2 ∷ Local 2 ∷ Local 2 ∷ Local 2 ∷ Arrive 2 ∷ Local 3 ∷ Local 3 ∷ Arrive 3 ∷ Start 2 ∷
+    Local 3 ∷ Local 3 ∷ Local 3 ∷ Finish 3 ∷ Local 2 ∷ []
 
 -- The same with that event.
 abbrev calls_front : List Action
@@ -152,9 +153,10 @@ calls_front = calls_before ++ CallElse 2 ∷ []
 -- From there until it can go on no more.
 abbrev calls_more : List Action
 calls_more =
-    Arrive 2 ∷ Arrive 3 ∷ Start 2 ∷ Finish 3 ∷ Local 2 ∷ Arrive 2 ∷ Arrive 3 ∷ Start 2 ∷ Local 3 ∷ Local 3 ∷ Local 3 ∷ Finish 3 ∷ Local 2 ∷ Arrive 2 ∷
-    Expire 2 ∷ Arrive 2 ∷ Arrive 3 ∷ Start 2 ∷ Finish 3 ∷ Local 2 ∷ Arrive 2 ∷ Arrive 3 ∷ Start 2 ∷ Local 3 ∷ Local 3 ∷ Local 3 ∷ Finish 3 ∷ Local 2 ∷
-    Complete 2 ∷ Local 3 ∷ Fail 3 ∷ Local 3 ∷ Arrive 3 ∷ Arrive 4 ∷ []
+    Arrive 2 ∷ Local 3 ∷ Local 3 ∷ Arrive 3 ∷ Start 2 ∷ Finish 3 ∷ Local 2 ∷ Arrive 2 ∷ Local 3 ∷ Local 3 ∷ Arrive 3 ∷ Start 2 ∷ Local 3 ∷ Local 3 ∷
+    Local 3 ∷ Finish 3 ∷ Local 2 ∷ Arrive 2 ∷ Expire 2 ∷ Arrive 2 ∷ Local 3 ∷ Local 3 ∷ Arrive 3 ∷ Start 2 ∷ Finish 3 ∷ Local 2 ∷ Arrive 2 ∷ Local 3 ∷
+    Local 3 ∷ Arrive 3 ∷ Start 2 ∷ Local 3 ∷ Local 3 ∷ Local 3 ∷ Finish 3 ∷ Local 2 ∷ Complete 2 ∷ Local 3 ∷ Local 3 ∷ Local 3 ∷ Local 3 ∷ Fail 3 ∷
+    Local 3 ∷ Local 3 ∷ Arrive 3 ∷ Arrive 4 ∷ []
 
 abbrev calls_whole : List Action
 calls_whole = calls_front ++ calls_more
@@ -216,8 +218,9 @@ calls_held_run = CallElse 2 ∷ Local 0 ∷ Arrive 1 ∷ Local 2 ∷ Arrive 2 �
 -- The text from the first permit until it can go on no more.
 abbrev calls_held_more : List Action
 calls_held_more =
-    CallElse 2 ∷ Arrive 2 ∷ Arrive 3 ∷ Start 2 ∷ Finish 3 ∷ Local 2 ∷ Arrive 2 ∷ Arrive 3 ∷ Start 2 ∷ Local 3 ∷ Local 3 ∷ Local 3 ∷ Finish 3 ∷
-    Local 2 ∷ Arrive 2 ∷ Arrive 3 ∷ Start 1 ∷ Local 3 ∷ Local 3 ∷ Local 3 ∷ Finish 3 ∷ Local 1 ∷ Arrive 1 ∷ Arrive 3 ∷ Arrive 4 ∷ []
+    CallElse 2 ∷ Arrive 2 ∷ Local 3 ∷ Local 3 ∷ Arrive 3 ∷ Start 2 ∷ Finish 3 ∷ Local 2 ∷ Arrive 2 ∷ Local 3 ∷ Local 3 ∷ Arrive 3 ∷ Start 2 ∷
+    Local 3 ∷ Local 3 ∷ Local 3 ∷ Finish 3 ∷ Local 2 ∷ Arrive 2 ∷ Local 3 ∷ Local 3 ∷ Arrive 3 ∷ Start 1 ∷ Local 3 ∷ Local 3 ∷ Local 3 ∷ Finish 3 ∷
+    Local 1 ∷ Arrive 1 ∷ Local 3 ∷ Local 3 ∷ Arrive 3 ∷ Arrive 4 ∷ []
 
 abbrev calls_held_whole : List Action
 calls_held_whole = calls_before ++ calls_held_more
@@ -306,8 +309,8 @@ calls_itself_refused r = other (first_same (r.shows calls_leaves (made_run [] ca
 -- The replay text of X 1, until it can go on no more: it has shown nothing.
 abbrev p1_early_run : List Action
 p1_early_run =
-    Local 0 ∷ Arrive 0 ∷ Local 1 ∷ Arrive 1 ∷ Arrive 2 ∷ Start 1 ∷ Local 2 ∷ Local 2 ∷ Local 2 ∷ Finish 2 ∷ Local 1 ∷ Arrive 1 ∷ Local 2 ∷ Arrive 2 ∷
-    Arrive 3 ∷ []
+    Local 0 ∷ Arrive 0 ∷ Local 1 ∷ Arrive 1 ∷ Local 2 ∷ Local 2 ∷ Arrive 2 ∷ Start 1 ∷ Local 2 ∷ Local 2 ∷ Local 2 ∷ Finish 2 ∷ Local 1 ∷ Arrive 1 ∷
+    Local 2 ∷ Local 2 ∷ Local 2 ∷ Local 2 ∷ Arrive 2 ∷ Arrive 3 ∷ []
 
 p1_early_made : IsMadeIn [] (text_for p1 p1_early) p1_early_run
 unfolding digits

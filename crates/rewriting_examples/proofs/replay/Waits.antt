@@ -5,9 +5,9 @@ use Rattle.ada_tree.specs.NameList.{predefined}
 use Rattle.ada_tree.specs.declared.expressions.BinaryOp.TheVariants as binary
 use Rattle.ada_tree.specs.declared.expressions.UnaryOp.TheVariants as unary
 use Rattle.ada_tree.specs.declared.statements.ParMode.TheVariants as mode
-use Rattle.ada_tree.specs.PlainExpr.{EInteger, EBinary, EUnary, RGiven}
-use Rattle.ada_tree.specs.PlainStmt.{SNull, SAssign, SRaise, SAbort, SCall, SAccept, SWait, SPutLine, SIf, SBlock, no_stmt, stmt_then, absent, present, accepting, alternative, AAccept, ADelay, ATerminate, no_alt, alt_then, arm, no_arm, arm_then, body, handler, no_handler, handler_then, PWords}
-use Rattle.ada_tree.specs.PlainDecl.{OPlain, IOne, DObject, DTask, DTaskBody, no_decl, decl_then}
+use Rattle.ada_tree.specs.PlainExpr.{EInteger, EBinary, EUnary, RGiven, EIndex}
+use Rattle.ada_tree.specs.PlainStmt.{SNull, SAssign, SRaise, SAbort, SCall, SAccept, SWait, SPutLine, SIf, SBlock, no_stmt, stmt_then, absent, present, accepting, alternative, AAccept, ADelay, ATerminate, no_alt, alt_then, arm, no_arm, arm_then, body, handler, no_handler, handler_then, PWords, LFor, SCase, SLoop, case_arm, no_case_arm, case_arm_then}
+use Rattle.ada_tree.specs.PlainDecl.{OPlain, IOne, DObject, DTask, DTaskBody, no_decl, decl_then, OArray, IList}
 use Rattle.ada_tree.specs.PlainProgram.{PProgram}
 use Rattle.ada_static_rules.specs.Refusals.{refusals}
 use Rattle.event_machine.specs.declared.Event.{Event}
@@ -194,8 +194,7 @@ waits_events = event.R 0 1 (negsuc 1) ∷ event.E 1 ∷ event.S 1 ∷ event.B 2 
 --             or
 --                terminate;
 --             end select;
--- ..        (as in the text of `p1_replay`, 11 lines: from "else" to "end if;")
---    end T;
+-- ..        (as in the text of `calls_replay`, 12 lines: from "else" to "end T;")
 --    task body K is
 --       DED_K, DED_A, DED_I : INTEGER := 0;
 --    begin
@@ -223,44 +222,16 @@ waits_events = event.R 0 1 (negsuc 1) ∷ event.E 1 ∷ event.S 1 ∷ event.B 2 
 --       end if;
 --    end K;
 --    task body DED_CONTROL is
+--       DED_OPS : constant array (1 .. 12) of INTEGER := (1, 1, 2, 1, 2, 1, 2, 1, 2, 1, 3, 1);
+--       DED_TS : constant array (1 .. 12) of INTEGER := (0, 1, 1, 1, 1, 1, 1, 2, 2, 2, 2, 0);
+--       DED_KS : constant array (1 .. 12) of INTEGER := (1, 1, 0, 2, 0, 3, 0, 9, 0, 9, 0, 10);
+--       DED_AS : constant array (1 .. 12) of INTEGER := (1, 1, 0, 0, 0, 0, 0, 1, 0, 2, 0, 0);
+--       DED_IS : constant array (1 .. 12) of INTEGER := (-2, -2, 0, 0, 0, 0, 0, 0, 0, 0, 0, 0);
 --    begin
---       accept GO(0)(DED_K, DED_A, DED_I : out INTEGER) do
---          DED_K := 1;
---          DED_A := 1;
---          DED_I := -2;
---       end GO;
---       accept GO(1)(DED_K, DED_A, DED_I : out INTEGER) do
---          DED_K := 1;
---          DED_A := 1;
---          DED_I := -2;
---       end GO;
---       accept DONE(1);
---       accept GO(1)(DED_K, DED_A, DED_I : out INTEGER) do
---          DED_K := 2;
---          DED_A := 0;
---          DED_I := 0;
---       end GO;
---       accept DONE(1);
---       accept GO(1)(DED_K, DED_A, DED_I : out INTEGER) do
---          DED_K := 3;
---          DED_A := 0;
---          DED_I := 0;
---       end GO;
---       accept DONE(1);
---       accept GO(2)(DED_K, DED_A, DED_I : out INTEGER) do
---          DED_K := 9;
---          DED_A := 1;
---          DED_I := 0;
---       end GO;
---       accept DONE(2);
---       accept GO(2)(DED_K, DED_A, DED_I : out INTEGER) do
---          DED_K := 9;
---          DED_A := 2;
---          DED_I := 0;
---       end GO;
---       begin
---          K.DED_JOIN;
--- ..     (as in the text of `p1_replay`, 20 lines: from "exception" to "begin")
+--       for DED_N in 1 .. 12 loop
+-- ..        (as in the text of `calls_replay`, 20 lines: from "case DED_OPS(DED_N) is" to "begin")
+--                         K.DED_JOIN;
+-- ..                    (as in the text of `p1_replay`, 20 lines: from "exception" to "begin")
 --       DED_V1 := -2;
 --       DED_CONTROL.GO(0)(DED_K, DED_A, DED_I);
 --       if DED_K = 1 and DED_A = 1 and DED_I = DED_V1 then
@@ -271,7 +242,7 @@ waits_events = event.R 0 1 (negsuc 1) ∷ event.E 1 ∷ event.S 1 ∷ event.B 2 
 -- ..        (as in the text of `p1_replay`, 16 lines: from "exception" to "end if;")
 -- end WAITS;
 abbrev waits_replay : PProgram
-waits_replay = record { names = (predefined ++ (codes "WAITS" ∷ codes "T" ∷ codes "E" ∷ codes "K" ∷ codes "N" ∷ codes "DED_V1" ∷ codes "DED_V2" ∷ codes "DED_V3" ∷ codes "DED_V4" ∷ codes "DED_K" ∷ codes "DED_A" ∷ codes "DED_I" ∷ codes "DED_CONTROL" ∷ codes "GO" ∷ codes "DONE" ∷ codes "HOLD" ∷ codes "DED_IDLE" ∷ codes "STOP" ∷ codes "NEVER" ∷ codes "DED_NEVER" ∷ codes "DED_JOIN" ∷ codes "DED_S_E" ∷ [])); text_io = false; name = (w 25); decls = (decl_then (DObject ((w 34) ∷ (w 35) ∷ (w 36) ∷ []) false (OPlain (record { mark = (w 0); bounds = None })) (Some (IOne (EInteger 0 o))) o) (decl_then (DObject ((w 30) ∷ []) false (OPlain (record { mark = (w 0); bounds = (Some (record { first = (EUnary unary.Minus (EInteger 2 o) o); last = (EInteger 2 o) })) })) None o) (decl_then (DTask (record { name = (w 26); of_kind = false; entries = ((record { name = (w 27); family = (Some (RGiven (record { first = (EUnary unary.Minus (EInteger 2 o) o); last = (EInteger 2 o) }))); formals = ([]); span = o }) ∷ (record { name = (w 46); family = (Some (RGiven (record { first = (EUnary unary.Minus (EInteger 2 o) o); last = (EInteger 2 o) }))); formals = ([]); span = o }) ∷ (record { name = (w 44); family = None; formals = ([]); span = o }) ∷ (record { name = (w 45); family = None; formals = ([]); span = o }) ∷ []); priorities = ([]) }) o) (decl_then (DTask (record { name = (w 28); of_kind = false; entries = ((record { name = (w 44); family = None; formals = ([]); span = o }) ∷ (record { name = (w 45); family = None; formals = ([]); span = o }) ∷ []); priorities = ([]) }) o) (decl_then (DTask (record { name = (w 37); of_kind = false; entries = ((record { name = (w 38); family = (Some (RGiven (record { first = (EInteger 0 o); last = (EInteger 2 o) }))); formals = ((record { names = ((w 34) ∷ (w 35) ∷ (w 36) ∷ []); mode = mode.Give; mark = (w 0) }) ∷ []); span = o }) ∷ (record { name = (w 39); family = (Some (RGiven (record { first = (EInteger 0 o); last = (EInteger 2 o) }))); formals = ([]); span = o }) ∷ (record { name = (w 40); family = None; formals = ([]); span = o }) ∷ []); priorities = ([]) }) o) (decl_then (DTask (record { name = (w 41); of_kind = false; entries = ((record { name = (w 42); family = None; formals = ([]); span = o }) ∷ (record { name = (w 43); family = None; formals = ([]); span = o }) ∷ []); priorities = ([]) }) o) (decl_then (DTaskBody (w 26) (decl_then (DObject ((w 29) ∷ []) false (OPlain (record { mark = (w 0); bounds = None })) (Some (IOne (EUnary unary.Minus (EInteger 2 o) o))) o) (decl_then (DObject ((w 34) ∷ (w 35) ∷ (w 36) ∷ []) false (OPlain (record { mark = (w 0); bounds = None })) (Some (IOne (EInteger 0 o))) o) (decl_then (DObject ((w 30) ∷ []) false (OPlain (record { mark = (w 3); bounds = None })) None o) (decl_then (DObject ((w 31) ∷ []) false (OPlain (record { mark = (w 0); bounds = (Some (record { first = (EUnary unary.Minus (EInteger 2 o) o); last = (EInteger 2 o) })) })) None o) (decl_then (DObject ((w 32) ∷ []) false (OPlain (record { mark = (w 3); bounds = None })) None o) (decl_then (DObject ((w 33) ∷ []) false (OPlain (record { mark = (w 3); bounds = None })) None o) no_decl)))))) (body (stmt_then (SBlock (body (stmt_then (SAssign (record { name = (w 30); index = None }) (EBinary binary.Less (n 29) (EInteger 0 o) o) o) (stmt_then (SIf (arm_then (arm (n 30) (stmt_then (SAssign (record { name = (w 31); index = None }) (n 29) o) no_stmt)) no_arm) absent o) (stmt_then (SAssign (record { name = (w 32); index = None }) (EBinary binary.Greater (n 29) (EInteger 0 o) o) o) (stmt_then (SCall (record { task = (record { name = (w 37); index = None }); entry = (w 38); args = (Some (record { first = ((EInteger 1 o) ∷ []); second = (Some ((n 34) ∷ (n 35) ∷ (n 36) ∷ [])) })) }) o) (stmt_then (SIf (arm_then (arm (EBinary binary.And (EBinary binary.And (EBinary binary.And (EBinary binary.Equal (n 34) (EInteger 1 o) o) (EBinary binary.Equal (n 35) (EInteger 1 o) o) o) (EBinary binary.Equal (n 36) (n 31) o) o) (n 30) o) (stmt_then (SAccept (accepting (record { entry = (w 27); index = (Some (n 31)); formals = ([]); span = o }) (present (stmt_then (SCall (record { task = (record { name = (w 37); index = None }); entry = (w 39); args = (Some (record { first = ((EInteger 1 o) ∷ []); second = None })) }) o) (stmt_then (SCall (record { task = (record { name = (w 37); index = None }); entry = (w 38); args = (Some (record { first = ((EInteger 1 o) ∷ []); second = (Some ((n 34) ∷ (n 35) ∷ (n 36) ∷ [])) })) }) o) (stmt_then (SIf (arm_then (arm (EBinary binary.NotEqual (n 34) (EInteger 2 o) o) (stmt_then (SCall (record { task = (record { name = (w 41); index = None }); entry = (w 42); args = None }) o) no_stmt)) no_arm) absent o) no_stmt))))) o) (stmt_then (SCall (record { task = (record { name = (w 37); index = None }); entry = (w 39); args = (Some (record { first = ((EInteger 1 o) ∷ []); second = None })) }) o) (stmt_then (SPutLine ((PWords (codes "E") o) ∷ []) o) no_stmt)))) (arm_then (arm (EBinary binary.And (EBinary binary.And (EBinary binary.Equal (n 34) (EInteger 4 o) o) (EBinary binary.Equal (n 35) (EInteger 1 o) o) o) (n 32) o) (stmt_then (SWait (alt_then (alternative None (AAccept (accepting (record { entry = (w 44); index = None; formals = ([]); span = o }) absent) no_stmt) o) (alt_then (alternative None (ADelay 500 no_stmt) o) (alt_then (alternative (Some (n 4)) (ADelay 1000 no_stmt) o) (alt_then (alternative (Some (n 4)) (ADelay 2000 no_stmt) o) no_alt)))) absent o) (stmt_then (SCall (record { task = (record { name = (w 37); index = None }); entry = (w 39); args = (Some (record { first = ((EInteger 1 o) ∷ []); second = None })) }) o) no_stmt))) (arm_then (arm (EBinary binary.And (EBinary binary.And (EBinary binary.Equal (n 34) (EInteger 4 o) o) (EBinary binary.Equal (n 35) (EInteger 2 o) o) o) (EUnary unary.Not (n 32) o) o) (stmt_then (SWait (alt_then (alternative None (AAccept (accepting (record { entry = (w 44); index = None; formals = ([]); span = o }) absent) no_stmt) o) (alt_then (alternative (Some (n 4)) (ADelay 500 no_stmt) o) (alt_then (alternative None (ADelay 1000 no_stmt) o) (alt_then (alternative (Some (n 4)) (ADelay 2000 no_stmt) o) no_alt)))) absent o) (stmt_then (SCall (record { task = (record { name = (w 37); index = None }); entry = (w 39); args = (Some (record { first = ((EInteger 1 o) ∷ []); second = None })) }) o) (stmt_then (SPutLine ((PWords (codes "LATE") o) ∷ []) o) no_stmt)))) (arm_then (arm (EBinary binary.And (EBinary binary.And (EBinary binary.And (EBinary binary.Equal (n 34) (EInteger 4 o) o) (EBinary binary.Equal (n 35) (EInteger 3 o) o) o) (EUnary unary.Not (n 32) o) o) (n 4) o) (stmt_then (SWait (alt_then (alternative None (AAccept (accepting (record { entry = (w 44); index = None; formals = ([]); span = o }) absent) no_stmt) o) (alt_then (alternative (Some (n 4)) (ADelay 500 no_stmt) o) (alt_then (alternative (Some (n 4)) (ADelay 1000 no_stmt) o) (alt_then (alternative None (ADelay 2000 no_stmt) o) no_alt)))) absent o) (stmt_then (SCall (record { task = (record { name = (w 37); index = None }); entry = (w 39); args = (Some (record { first = ((EInteger 1 o) ∷ []); second = None })) }) o) no_stmt))) no_arm)))) (present (stmt_then (SCall (record { task = (record { name = (w 41); index = None }); entry = (w 42); args = None }) o) no_stmt)) o) (stmt_then (SCall (record { task = (record { name = (w 37); index = None }); entry = (w 38); args = (Some (record { first = ((EInteger 1 o) ∷ []); second = (Some ((n 34) ∷ (n 35) ∷ (n 36) ∷ [])) })) }) o) (stmt_then (SIf (arm_then (arm (EBinary binary.And (EBinary binary.And (EBinary binary.Equal (n 34) (EInteger 1 o) o) (EBinary binary.Equal (n 35) (EInteger 1 o) o) o) (EBinary binary.Equal (n 36) (EInteger 1 o) o) o) (stmt_then (SAccept (accepting (record { entry = (w 27); index = (Some (EInteger 1 o)); formals = ([]); span = o }) (present (stmt_then (SCall (record { task = (record { name = (w 37); index = None }); entry = (w 39); args = (Some (record { first = ((EInteger 1 o) ∷ []); second = None })) }) o) (stmt_then (SCall (record { task = (record { name = (w 37); index = None }); entry = (w 38); args = (Some (record { first = ((EInteger 1 o) ∷ []); second = (Some ((n 34) ∷ (n 35) ∷ (n 36) ∷ [])) })) }) o) (stmt_then (SIf (arm_then (arm (EBinary binary.NotEqual (n 34) (EInteger 2 o) o) (stmt_then (SCall (record { task = (record { name = (w 41); index = None }); entry = (w 42); args = None }) o) no_stmt)) no_arm) absent o) no_stmt))))) o) (stmt_then (SCall (record { task = (record { name = (w 37); index = None }); entry = (w 39); args = (Some (record { first = ((EInteger 1 o) ∷ []); second = None })) }) o) no_stmt))) (arm_then (arm (EBinary binary.Equal (n 34) (EInteger 3 o) o) (stmt_then (SWait (alt_then (alternative None (AAccept (accepting (record { entry = (w 44); index = None; formals = ([]); span = o }) absent) no_stmt) o) no_alt) (present (stmt_then (SNull o) no_stmt)) o) (stmt_then (SCall (record { task = (record { name = (w 37); index = None }); entry = (w 39); args = (Some (record { first = ((EInteger 1 o) ∷ []); second = None })) }) o) (stmt_then (SPutLine ((PWords (codes "ELSE") o) ∷ []) o) no_stmt)))) no_arm)) (present (stmt_then (SCall (record { task = (record { name = (w 41); index = None }); entry = (w 42); args = None }) o) no_stmt)) o) (stmt_then (SAssign (record { name = (w 33); index = None }) (EBinary binary.Less (n 29) (EInteger 2 o) o) o) (stmt_then (SCall (record { task = (record { name = (w 37); index = None }); entry = (w 38); args = (Some (record { first = ((EInteger 1 o) ∷ []); second = (Some ((n 34) ∷ (n 35) ∷ (n 36) ∷ [])) })) }) o) (stmt_then (SIf (arm_then (arm (EBinary binary.And (EBinary binary.And (EBinary binary.Equal (n 34) (EInteger 1 o) o) (EBinary binary.Equal (n 35) (EInteger 1 o) o) o) (EBinary binary.Equal (n 36) (EInteger 2 o) o) o) (stmt_then (SAccept (accepting (record { entry = (w 27); index = (Some (EInteger 2 o)); formals = ([]); span = o }) (present (stmt_then (SCall (record { task = (record { name = (w 37); index = None }); entry = (w 39); args = (Some (record { first = ((EInteger 1 o) ∷ []); second = None })) }) o) (stmt_then (SCall (record { task = (record { name = (w 37); index = None }); entry = (w 38); args = (Some (record { first = ((EInteger 1 o) ∷ []); second = (Some ((n 34) ∷ (n 35) ∷ (n 36) ∷ [])) })) }) o) (stmt_then (SIf (arm_then (arm (EBinary binary.NotEqual (n 34) (EInteger 2 o) o) (stmt_then (SCall (record { task = (record { name = (w 41); index = None }); entry = (w 42); args = None }) o) no_stmt)) no_arm) absent o) no_stmt))))) o) (stmt_then (SCall (record { task = (record { name = (w 37); index = None }); entry = (w 39); args = (Some (record { first = ((EInteger 1 o) ∷ []); second = None })) }) o) no_stmt))) (arm_then (arm (EBinary binary.And (EBinary binary.Equal (n 34) (EInteger 10 o) o) (n 33) o) (stmt_then (SWait (alt_then (alternative None (AAccept (accepting (record { entry = (w 44); index = None; formals = ([]); span = o }) absent) no_stmt) o) (alt_then (alternative None ATerminate o) no_alt)) absent o) no_stmt)) no_arm)) (present (stmt_then (SCall (record { task = (record { name = (w 41); index = None }); entry = (w 42); args = None }) o) no_stmt)) o) no_stmt)))))))))) (handler_then (handler ([]) (stmt_then (SNull o) no_stmt) o) no_handler)) o) (stmt_then (SCall (record { task = (record { name = (w 37); index = None }); entry = (w 38); args = (Some (record { first = ((EInteger 1 o) ∷ []); second = (Some ((n 34) ∷ (n 35) ∷ (n 36) ∷ [])) })) }) o) (stmt_then (SIf (arm_then (arm (EBinary binary.NotEqual (n 34) (EInteger 8 o) o) (stmt_then (SCall (record { task = (record { name = (w 41); index = None }); entry = (w 42); args = None }) o) no_stmt)) no_arm) absent o) no_stmt))) no_handler) o) (decl_then (DTaskBody (w 28) (decl_then (DObject ((w 34) ∷ (w 35) ∷ (w 36) ∷ []) false (OPlain (record { mark = (w 0); bounds = None })) (Some (IOne (EInteger 0 o))) o) no_decl) (body (stmt_then (SBlock (body (stmt_then (SCall (record { task = (record { name = (w 37); index = None }); entry = (w 38); args = (Some (record { first = ((EInteger 2 o) ∷ []); second = (Some ((n 34) ∷ (n 35) ∷ (n 36) ∷ [])) })) }) o) (stmt_then (SIf (arm_then (arm (EBinary binary.And (EBinary binary.Equal (n 34) (EInteger 9 o) o) (EBinary binary.Equal (n 35) (EInteger 1 o) o) o) (stmt_then (SAbort ((record { name = (w 26); index = None }) ∷ []) o) (stmt_then (SCall (record { task = (record { name = (w 37); index = None }); entry = (w 39); args = (Some (record { first = ((EInteger 2 o) ∷ []); second = None })) }) o) no_stmt))) no_arm) (present (stmt_then (SCall (record { task = (record { name = (w 41); index = None }); entry = (w 42); args = None }) o) no_stmt)) o) (stmt_then (SCall (record { task = (record { name = (w 37); index = None }); entry = (w 38); args = (Some (record { first = ((EInteger 2 o) ∷ []); second = (Some ((n 34) ∷ (n 35) ∷ (n 36) ∷ [])) })) }) o) (stmt_then (SIf (arm_then (arm (EBinary binary.And (EBinary binary.Equal (n 34) (EInteger 9 o) o) (EBinary binary.Equal (n 35) (EInteger 2 o) o) o) (stmt_then (SAbort ((record { name = (w 28); index = None }) ∷ []) o) no_stmt)) no_arm) (present (stmt_then (SCall (record { task = (record { name = (w 41); index = None }); entry = (w 42); args = None }) o) no_stmt)) o) no_stmt)))) (handler_then (handler ([]) (stmt_then (SNull o) no_stmt) o) no_handler)) o) (stmt_then (SCall (record { task = (record { name = (w 37); index = None }); entry = (w 38); args = (Some (record { first = ((EInteger 2 o) ∷ []); second = (Some ((n 34) ∷ (n 35) ∷ (n 36) ∷ [])) })) }) o) (stmt_then (SIf (arm_then (arm (EBinary binary.NotEqual (n 34) (EInteger 8 o) o) (stmt_then (SCall (record { task = (record { name = (w 41); index = None }); entry = (w 42); args = None }) o) no_stmt)) no_arm) absent o) no_stmt))) no_handler) o) (decl_then (DTaskBody (w 37) no_decl (body (stmt_then (SAccept (accepting (record { entry = (w 38); index = (Some (EInteger 0 o)); formals = ((record { names = ((w 34) ∷ (w 35) ∷ (w 36) ∷ []); mode = mode.Give; mark = (w 0) }) ∷ []); span = o }) (present (stmt_then (SAssign (record { name = (w 34); index = None }) (EInteger 1 o) o) (stmt_then (SAssign (record { name = (w 35); index = None }) (EInteger 1 o) o) (stmt_then (SAssign (record { name = (w 36); index = None }) (EUnary unary.Minus (EInteger 2 o) o) o) no_stmt))))) o) (stmt_then (SAccept (accepting (record { entry = (w 38); index = (Some (EInteger 1 o)); formals = ((record { names = ((w 34) ∷ (w 35) ∷ (w 36) ∷ []); mode = mode.Give; mark = (w 0) }) ∷ []); span = o }) (present (stmt_then (SAssign (record { name = (w 34); index = None }) (EInteger 1 o) o) (stmt_then (SAssign (record { name = (w 35); index = None }) (EInteger 1 o) o) (stmt_then (SAssign (record { name = (w 36); index = None }) (EUnary unary.Minus (EInteger 2 o) o) o) no_stmt))))) o) (stmt_then (SAccept (accepting (record { entry = (w 39); index = (Some (EInteger 1 o)); formals = ([]); span = o }) absent) o) (stmt_then (SAccept (accepting (record { entry = (w 38); index = (Some (EInteger 1 o)); formals = ((record { names = ((w 34) ∷ (w 35) ∷ (w 36) ∷ []); mode = mode.Give; mark = (w 0) }) ∷ []); span = o }) (present (stmt_then (SAssign (record { name = (w 34); index = None }) (EInteger 2 o) o) (stmt_then (SAssign (record { name = (w 35); index = None }) (EInteger 0 o) o) (stmt_then (SAssign (record { name = (w 36); index = None }) (EInteger 0 o) o) no_stmt))))) o) (stmt_then (SAccept (accepting (record { entry = (w 39); index = (Some (EInteger 1 o)); formals = ([]); span = o }) absent) o) (stmt_then (SAccept (accepting (record { entry = (w 38); index = (Some (EInteger 1 o)); formals = ((record { names = ((w 34) ∷ (w 35) ∷ (w 36) ∷ []); mode = mode.Give; mark = (w 0) }) ∷ []); span = o }) (present (stmt_then (SAssign (record { name = (w 34); index = None }) (EInteger 3 o) o) (stmt_then (SAssign (record { name = (w 35); index = None }) (EInteger 0 o) o) (stmt_then (SAssign (record { name = (w 36); index = None }) (EInteger 0 o) o) no_stmt))))) o) (stmt_then (SAccept (accepting (record { entry = (w 39); index = (Some (EInteger 1 o)); formals = ([]); span = o }) absent) o) (stmt_then (SAccept (accepting (record { entry = (w 38); index = (Some (EInteger 2 o)); formals = ((record { names = ((w 34) ∷ (w 35) ∷ (w 36) ∷ []); mode = mode.Give; mark = (w 0) }) ∷ []); span = o }) (present (stmt_then (SAssign (record { name = (w 34); index = None }) (EInteger 9 o) o) (stmt_then (SAssign (record { name = (w 35); index = None }) (EInteger 1 o) o) (stmt_then (SAssign (record { name = (w 36); index = None }) (EInteger 0 o) o) no_stmt))))) o) (stmt_then (SAccept (accepting (record { entry = (w 39); index = (Some (EInteger 2 o)); formals = ([]); span = o }) absent) o) (stmt_then (SAccept (accepting (record { entry = (w 38); index = (Some (EInteger 2 o)); formals = ((record { names = ((w 34) ∷ (w 35) ∷ (w 36) ∷ []); mode = mode.Give; mark = (w 0) }) ∷ []); span = o }) (present (stmt_then (SAssign (record { name = (w 34); index = None }) (EInteger 9 o) o) (stmt_then (SAssign (record { name = (w 35); index = None }) (EInteger 2 o) o) (stmt_then (SAssign (record { name = (w 36); index = None }) (EInteger 0 o) o) no_stmt))))) o) (stmt_then (SBlock (body (stmt_then (SCall (record { task = (record { name = (w 28); index = None }); entry = (w 45); args = None }) o) no_stmt) (handler_then (handler ((w 9) ∷ []) (stmt_then (SNull o) no_stmt) o) no_handler)) o) (stmt_then (SAccept (accepting (record { entry = (w 38); index = (Some (EInteger 0 o)); formals = ((record { names = ((w 34) ∷ (w 35) ∷ (w 36) ∷ []); mode = mode.Give; mark = (w 0) }) ∷ []); span = o }) (present (stmt_then (SAssign (record { name = (w 34); index = None }) (EInteger 10 o) o) (stmt_then (SAssign (record { name = (w 35); index = None }) (EInteger 0 o) o) (stmt_then (SAssign (record { name = (w 36); index = None }) (EInteger 0 o) o) no_stmt))))) o) no_stmt)))))))))))) no_handler) o) (decl_then (DTaskBody (w 41) no_decl (body (stmt_then (SWait (alt_then (alternative None (AAccept (accepting (record { entry = (w 43); index = None; formals = ([]); span = o }) absent) no_stmt) o) (alt_then (alternative None ATerminate o) no_alt)) absent o) no_stmt) no_handler) o) no_decl)))))))))); body = (body (stmt_then (SBlock (body (stmt_then (SAssign (record { name = (w 30); index = None }) (EUnary unary.Minus (EInteger 2 o) o) o) (stmt_then (SCall (record { task = (record { name = (w 37); index = None }); entry = (w 38); args = (Some (record { first = ((EInteger 0 o) ∷ []); second = (Some ((n 34) ∷ (n 35) ∷ (n 36) ∷ [])) })) }) o) (stmt_then (SIf (arm_then (arm (EBinary binary.And (EBinary binary.And (EBinary binary.Equal (n 34) (EInteger 1 o) o) (EBinary binary.Equal (n 35) (EInteger 1 o) o) o) (EBinary binary.Equal (n 36) (n 30) o) o) (stmt_then (SCall (record { task = (record { name = (w 26); index = None }); entry = (w 27); args = (Some (record { first = ((n 30) ∷ []); second = None })) }) o) no_stmt)) (arm_then (arm (EBinary binary.And (EBinary binary.And (EBinary binary.Equal (n 34) (EInteger 7 o) o) (EBinary binary.Equal (n 35) (EInteger 1 o) o) o) (EBinary binary.Equal (n 36) (n 30) o) o) (stmt_then (SBlock (body (stmt_then (SCall (record { task = (record { name = (w 26); index = None }); entry = (w 46); args = (Some (record { first = ((n 30) ∷ []); second = None })) }) o) no_stmt) (handler_then (handler ([]) (stmt_then (SCall (record { task = (record { name = (w 37); index = None }); entry = (w 39); args = (Some (record { first = ((EInteger 0 o) ∷ []); second = None })) }) o) (stmt_then (SRaise None o) no_stmt)) o) no_handler)) o) no_stmt)) no_arm)) (present (stmt_then (SCall (record { task = (record { name = (w 41); index = None }); entry = (w 42); args = None }) o) no_stmt)) o) no_stmt))) (handler_then (handler ([]) (stmt_then (SNull o) no_stmt) o) no_handler)) o) (stmt_then (SCall (record { task = (record { name = (w 37); index = None }); entry = (w 38); args = (Some (record { first = ((EInteger 0 o) ∷ []); second = (Some ((n 34) ∷ (n 35) ∷ (n 36) ∷ [])) })) }) o) (stmt_then (SIf (arm_then (arm (EBinary binary.NotEqual (n 34) (EInteger 10 o) o) (stmt_then (SCall (record { task = (record { name = (w 41); index = None }); entry = (w 42); args = None }) o) no_stmt)) no_arm) absent o) no_stmt))) no_handler) }
+waits_replay = record { names = (predefined ++ (codes "WAITS" ∷ codes "T" ∷ codes "E" ∷ codes "K" ∷ codes "N" ∷ codes "DED_V1" ∷ codes "DED_V2" ∷ codes "DED_V3" ∷ codes "DED_V4" ∷ codes "DED_K" ∷ codes "DED_A" ∷ codes "DED_I" ∷ codes "DED_CONTROL" ∷ codes "GO" ∷ codes "DONE" ∷ codes "HOLD" ∷ codes "DED_IDLE" ∷ codes "STOP" ∷ codes "NEVER" ∷ codes "DED_NEVER" ∷ codes "DED_JOIN" ∷ codes "DED_OPS" ∷ codes "DED_TS" ∷ codes "DED_KS" ∷ codes "DED_AS" ∷ codes "DED_IS" ∷ codes "DED_N" ∷ codes "DED_S_E" ∷ [])); text_io = false; name = (w 25); decls = (decl_then (DObject ((w 34) ∷ (w 35) ∷ (w 36) ∷ []) false (OPlain (record { mark = (w 0); bounds = None })) (Some (IOne (EInteger 0 o))) o) (decl_then (DObject ((w 30) ∷ []) false (OPlain (record { mark = (w 0); bounds = (Some (record { first = (EUnary unary.Minus (EInteger 2 o) o); last = (EInteger 2 o) })) })) None o) (decl_then (DTask (record { name = (w 26); of_kind = false; entries = ((record { name = (w 27); family = (Some (RGiven (record { first = (EUnary unary.Minus (EInteger 2 o) o); last = (EInteger 2 o) }))); formals = ([]); span = o }) ∷ (record { name = (w 52); family = (Some (RGiven (record { first = (EUnary unary.Minus (EInteger 2 o) o); last = (EInteger 2 o) }))); formals = ([]); span = o }) ∷ (record { name = (w 44); family = None; formals = ([]); span = o }) ∷ (record { name = (w 45); family = None; formals = ([]); span = o }) ∷ []); priorities = ([]) }) o) (decl_then (DTask (record { name = (w 28); of_kind = false; entries = ((record { name = (w 44); family = None; formals = ([]); span = o }) ∷ (record { name = (w 45); family = None; formals = ([]); span = o }) ∷ []); priorities = ([]) }) o) (decl_then (DTask (record { name = (w 37); of_kind = false; entries = ((record { name = (w 38); family = (Some (RGiven (record { first = (EInteger 0 o); last = (EInteger 2 o) }))); formals = ((record { names = ((w 34) ∷ (w 35) ∷ (w 36) ∷ []); mode = mode.Give; mark = (w 0) }) ∷ []); span = o }) ∷ (record { name = (w 39); family = (Some (RGiven (record { first = (EInteger 0 o); last = (EInteger 2 o) }))); formals = ([]); span = o }) ∷ (record { name = (w 40); family = None; formals = ([]); span = o }) ∷ []); priorities = ([]) }) o) (decl_then (DTask (record { name = (w 41); of_kind = false; entries = ((record { name = (w 42); family = None; formals = ([]); span = o }) ∷ (record { name = (w 43); family = None; formals = ([]); span = o }) ∷ []); priorities = ([]) }) o) (decl_then (DTaskBody (w 26) (decl_then (DObject ((w 29) ∷ []) false (OPlain (record { mark = (w 0); bounds = None })) (Some (IOne (EUnary unary.Minus (EInteger 2 o) o))) o) (decl_then (DObject ((w 34) ∷ (w 35) ∷ (w 36) ∷ []) false (OPlain (record { mark = (w 0); bounds = None })) (Some (IOne (EInteger 0 o))) o) (decl_then (DObject ((w 30) ∷ []) false (OPlain (record { mark = (w 3); bounds = None })) None o) (decl_then (DObject ((w 31) ∷ []) false (OPlain (record { mark = (w 0); bounds = (Some (record { first = (EUnary unary.Minus (EInteger 2 o) o); last = (EInteger 2 o) })) })) None o) (decl_then (DObject ((w 32) ∷ []) false (OPlain (record { mark = (w 3); bounds = None })) None o) (decl_then (DObject ((w 33) ∷ []) false (OPlain (record { mark = (w 3); bounds = None })) None o) no_decl)))))) (body (stmt_then (SBlock (body (stmt_then (SAssign (record { name = (w 30); index = None }) (EBinary binary.Less (n 29) (EInteger 0 o) o) o) (stmt_then (SIf (arm_then (arm (n 30) (stmt_then (SAssign (record { name = (w 31); index = None }) (n 29) o) no_stmt)) no_arm) absent o) (stmt_then (SAssign (record { name = (w 32); index = None }) (EBinary binary.Greater (n 29) (EInteger 0 o) o) o) (stmt_then (SCall (record { task = (record { name = (w 37); index = None }); entry = (w 38); args = (Some (record { first = ((EInteger 1 o) ∷ []); second = (Some ((n 34) ∷ (n 35) ∷ (n 36) ∷ [])) })) }) o) (stmt_then (SIf (arm_then (arm (EBinary binary.And (EBinary binary.And (EBinary binary.And (EBinary binary.Equal (n 34) (EInteger 1 o) o) (EBinary binary.Equal (n 35) (EInteger 1 o) o) o) (EBinary binary.Equal (n 36) (n 31) o) o) (n 30) o) (stmt_then (SAccept (accepting (record { entry = (w 27); index = (Some (n 31)); formals = ([]); span = o }) (present (stmt_then (SCall (record { task = (record { name = (w 37); index = None }); entry = (w 39); args = (Some (record { first = ((EInteger 1 o) ∷ []); second = None })) }) o) (stmt_then (SCall (record { task = (record { name = (w 37); index = None }); entry = (w 38); args = (Some (record { first = ((EInteger 1 o) ∷ []); second = (Some ((n 34) ∷ (n 35) ∷ (n 36) ∷ [])) })) }) o) (stmt_then (SIf (arm_then (arm (EBinary binary.NotEqual (n 34) (EInteger 2 o) o) (stmt_then (SCall (record { task = (record { name = (w 41); index = None }); entry = (w 42); args = None }) o) no_stmt)) no_arm) absent o) no_stmt))))) o) (stmt_then (SCall (record { task = (record { name = (w 37); index = None }); entry = (w 39); args = (Some (record { first = ((EInteger 1 o) ∷ []); second = None })) }) o) (stmt_then (SPutLine ((PWords (codes "E") o) ∷ []) o) no_stmt)))) (arm_then (arm (EBinary binary.And (EBinary binary.And (EBinary binary.Equal (n 34) (EInteger 4 o) o) (EBinary binary.Equal (n 35) (EInteger 1 o) o) o) (n 32) o) (stmt_then (SWait (alt_then (alternative None (AAccept (accepting (record { entry = (w 44); index = None; formals = ([]); span = o }) absent) no_stmt) o) (alt_then (alternative None (ADelay 500 no_stmt) o) (alt_then (alternative (Some (n 4)) (ADelay 1000 no_stmt) o) (alt_then (alternative (Some (n 4)) (ADelay 2000 no_stmt) o) no_alt)))) absent o) (stmt_then (SCall (record { task = (record { name = (w 37); index = None }); entry = (w 39); args = (Some (record { first = ((EInteger 1 o) ∷ []); second = None })) }) o) no_stmt))) (arm_then (arm (EBinary binary.And (EBinary binary.And (EBinary binary.Equal (n 34) (EInteger 4 o) o) (EBinary binary.Equal (n 35) (EInteger 2 o) o) o) (EUnary unary.Not (n 32) o) o) (stmt_then (SWait (alt_then (alternative None (AAccept (accepting (record { entry = (w 44); index = None; formals = ([]); span = o }) absent) no_stmt) o) (alt_then (alternative (Some (n 4)) (ADelay 500 no_stmt) o) (alt_then (alternative None (ADelay 1000 no_stmt) o) (alt_then (alternative (Some (n 4)) (ADelay 2000 no_stmt) o) no_alt)))) absent o) (stmt_then (SCall (record { task = (record { name = (w 37); index = None }); entry = (w 39); args = (Some (record { first = ((EInteger 1 o) ∷ []); second = None })) }) o) (stmt_then (SPutLine ((PWords (codes "LATE") o) ∷ []) o) no_stmt)))) (arm_then (arm (EBinary binary.And (EBinary binary.And (EBinary binary.And (EBinary binary.Equal (n 34) (EInteger 4 o) o) (EBinary binary.Equal (n 35) (EInteger 3 o) o) o) (EUnary unary.Not (n 32) o) o) (n 4) o) (stmt_then (SWait (alt_then (alternative None (AAccept (accepting (record { entry = (w 44); index = None; formals = ([]); span = o }) absent) no_stmt) o) (alt_then (alternative (Some (n 4)) (ADelay 500 no_stmt) o) (alt_then (alternative (Some (n 4)) (ADelay 1000 no_stmt) o) (alt_then (alternative None (ADelay 2000 no_stmt) o) no_alt)))) absent o) (stmt_then (SCall (record { task = (record { name = (w 37); index = None }); entry = (w 39); args = (Some (record { first = ((EInteger 1 o) ∷ []); second = None })) }) o) no_stmt))) no_arm)))) (present (stmt_then (SCall (record { task = (record { name = (w 41); index = None }); entry = (w 42); args = None }) o) no_stmt)) o) (stmt_then (SCall (record { task = (record { name = (w 37); index = None }); entry = (w 38); args = (Some (record { first = ((EInteger 1 o) ∷ []); second = (Some ((n 34) ∷ (n 35) ∷ (n 36) ∷ [])) })) }) o) (stmt_then (SIf (arm_then (arm (EBinary binary.And (EBinary binary.And (EBinary binary.Equal (n 34) (EInteger 1 o) o) (EBinary binary.Equal (n 35) (EInteger 1 o) o) o) (EBinary binary.Equal (n 36) (EInteger 1 o) o) o) (stmt_then (SAccept (accepting (record { entry = (w 27); index = (Some (EInteger 1 o)); formals = ([]); span = o }) (present (stmt_then (SCall (record { task = (record { name = (w 37); index = None }); entry = (w 39); args = (Some (record { first = ((EInteger 1 o) ∷ []); second = None })) }) o) (stmt_then (SCall (record { task = (record { name = (w 37); index = None }); entry = (w 38); args = (Some (record { first = ((EInteger 1 o) ∷ []); second = (Some ((n 34) ∷ (n 35) ∷ (n 36) ∷ [])) })) }) o) (stmt_then (SIf (arm_then (arm (EBinary binary.NotEqual (n 34) (EInteger 2 o) o) (stmt_then (SCall (record { task = (record { name = (w 41); index = None }); entry = (w 42); args = None }) o) no_stmt)) no_arm) absent o) no_stmt))))) o) (stmt_then (SCall (record { task = (record { name = (w 37); index = None }); entry = (w 39); args = (Some (record { first = ((EInteger 1 o) ∷ []); second = None })) }) o) no_stmt))) (arm_then (arm (EBinary binary.Equal (n 34) (EInteger 3 o) o) (stmt_then (SWait (alt_then (alternative None (AAccept (accepting (record { entry = (w 44); index = None; formals = ([]); span = o }) absent) no_stmt) o) no_alt) (present (stmt_then (SNull o) no_stmt)) o) (stmt_then (SCall (record { task = (record { name = (w 37); index = None }); entry = (w 39); args = (Some (record { first = ((EInteger 1 o) ∷ []); second = None })) }) o) (stmt_then (SPutLine ((PWords (codes "ELSE") o) ∷ []) o) no_stmt)))) no_arm)) (present (stmt_then (SCall (record { task = (record { name = (w 41); index = None }); entry = (w 42); args = None }) o) no_stmt)) o) (stmt_then (SAssign (record { name = (w 33); index = None }) (EBinary binary.Less (n 29) (EInteger 2 o) o) o) (stmt_then (SCall (record { task = (record { name = (w 37); index = None }); entry = (w 38); args = (Some (record { first = ((EInteger 1 o) ∷ []); second = (Some ((n 34) ∷ (n 35) ∷ (n 36) ∷ [])) })) }) o) (stmt_then (SIf (arm_then (arm (EBinary binary.And (EBinary binary.And (EBinary binary.Equal (n 34) (EInteger 1 o) o) (EBinary binary.Equal (n 35) (EInteger 1 o) o) o) (EBinary binary.Equal (n 36) (EInteger 2 o) o) o) (stmt_then (SAccept (accepting (record { entry = (w 27); index = (Some (EInteger 2 o)); formals = ([]); span = o }) (present (stmt_then (SCall (record { task = (record { name = (w 37); index = None }); entry = (w 39); args = (Some (record { first = ((EInteger 1 o) ∷ []); second = None })) }) o) (stmt_then (SCall (record { task = (record { name = (w 37); index = None }); entry = (w 38); args = (Some (record { first = ((EInteger 1 o) ∷ []); second = (Some ((n 34) ∷ (n 35) ∷ (n 36) ∷ [])) })) }) o) (stmt_then (SIf (arm_then (arm (EBinary binary.NotEqual (n 34) (EInteger 2 o) o) (stmt_then (SCall (record { task = (record { name = (w 41); index = None }); entry = (w 42); args = None }) o) no_stmt)) no_arm) absent o) no_stmt))))) o) (stmt_then (SCall (record { task = (record { name = (w 37); index = None }); entry = (w 39); args = (Some (record { first = ((EInteger 1 o) ∷ []); second = None })) }) o) no_stmt))) (arm_then (arm (EBinary binary.And (EBinary binary.Equal (n 34) (EInteger 10 o) o) (n 33) o) (stmt_then (SWait (alt_then (alternative None (AAccept (accepting (record { entry = (w 44); index = None; formals = ([]); span = o }) absent) no_stmt) o) (alt_then (alternative None ATerminate o) no_alt)) absent o) no_stmt)) no_arm)) (present (stmt_then (SCall (record { task = (record { name = (w 41); index = None }); entry = (w 42); args = None }) o) no_stmt)) o) no_stmt)))))))))) (handler_then (handler ([]) (stmt_then (SNull o) no_stmt) o) no_handler)) o) (stmt_then (SCall (record { task = (record { name = (w 37); index = None }); entry = (w 38); args = (Some (record { first = ((EInteger 1 o) ∷ []); second = (Some ((n 34) ∷ (n 35) ∷ (n 36) ∷ [])) })) }) o) (stmt_then (SIf (arm_then (arm (EBinary binary.NotEqual (n 34) (EInteger 8 o) o) (stmt_then (SCall (record { task = (record { name = (w 41); index = None }); entry = (w 42); args = None }) o) no_stmt)) no_arm) absent o) no_stmt))) no_handler) o) (decl_then (DTaskBody (w 28) (decl_then (DObject ((w 34) ∷ (w 35) ∷ (w 36) ∷ []) false (OPlain (record { mark = (w 0); bounds = None })) (Some (IOne (EInteger 0 o))) o) no_decl) (body (stmt_then (SBlock (body (stmt_then (SCall (record { task = (record { name = (w 37); index = None }); entry = (w 38); args = (Some (record { first = ((EInteger 2 o) ∷ []); second = (Some ((n 34) ∷ (n 35) ∷ (n 36) ∷ [])) })) }) o) (stmt_then (SIf (arm_then (arm (EBinary binary.And (EBinary binary.Equal (n 34) (EInteger 9 o) o) (EBinary binary.Equal (n 35) (EInteger 1 o) o) o) (stmt_then (SAbort ((record { name = (w 26); index = None }) ∷ []) o) (stmt_then (SCall (record { task = (record { name = (w 37); index = None }); entry = (w 39); args = (Some (record { first = ((EInteger 2 o) ∷ []); second = None })) }) o) no_stmt))) no_arm) (present (stmt_then (SCall (record { task = (record { name = (w 41); index = None }); entry = (w 42); args = None }) o) no_stmt)) o) (stmt_then (SCall (record { task = (record { name = (w 37); index = None }); entry = (w 38); args = (Some (record { first = ((EInteger 2 o) ∷ []); second = (Some ((n 34) ∷ (n 35) ∷ (n 36) ∷ [])) })) }) o) (stmt_then (SIf (arm_then (arm (EBinary binary.And (EBinary binary.Equal (n 34) (EInteger 9 o) o) (EBinary binary.Equal (n 35) (EInteger 2 o) o) o) (stmt_then (SAbort ((record { name = (w 28); index = None }) ∷ []) o) no_stmt)) no_arm) (present (stmt_then (SCall (record { task = (record { name = (w 41); index = None }); entry = (w 42); args = None }) o) no_stmt)) o) no_stmt)))) (handler_then (handler ([]) (stmt_then (SNull o) no_stmt) o) no_handler)) o) (stmt_then (SCall (record { task = (record { name = (w 37); index = None }); entry = (w 38); args = (Some (record { first = ((EInteger 2 o) ∷ []); second = (Some ((n 34) ∷ (n 35) ∷ (n 36) ∷ [])) })) }) o) (stmt_then (SIf (arm_then (arm (EBinary binary.NotEqual (n 34) (EInteger 8 o) o) (stmt_then (SCall (record { task = (record { name = (w 41); index = None }); entry = (w 42); args = None }) o) no_stmt)) no_arm) absent o) no_stmt))) no_handler) o) (decl_then (DTaskBody (w 37) (decl_then (DObject ((w 46) ∷ []) true (OArray (RGiven (record { first = (EInteger 1 o); last = (EInteger 12 o) })) (record { mark = (w 0); bounds = None })) (Some (IList ((EInteger 1 o) ∷ (EInteger 1 o) ∷ (EInteger 2 o) ∷ (EInteger 1 o) ∷ (EInteger 2 o) ∷ (EInteger 1 o) ∷ (EInteger 2 o) ∷ (EInteger 1 o) ∷ (EInteger 2 o) ∷ (EInteger 1 o) ∷ (EInteger 3 o) ∷ (EInteger 1 o) ∷ []) o)) o) (decl_then (DObject ((w 47) ∷ []) true (OArray (RGiven (record { first = (EInteger 1 o); last = (EInteger 12 o) })) (record { mark = (w 0); bounds = None })) (Some (IList ((EInteger 0 o) ∷ (EInteger 1 o) ∷ (EInteger 1 o) ∷ (EInteger 1 o) ∷ (EInteger 1 o) ∷ (EInteger 1 o) ∷ (EInteger 1 o) ∷ (EInteger 2 o) ∷ (EInteger 2 o) ∷ (EInteger 2 o) ∷ (EInteger 2 o) ∷ (EInteger 0 o) ∷ []) o)) o) (decl_then (DObject ((w 48) ∷ []) true (OArray (RGiven (record { first = (EInteger 1 o); last = (EInteger 12 o) })) (record { mark = (w 0); bounds = None })) (Some (IList ((EInteger 1 o) ∷ (EInteger 1 o) ∷ (EInteger 0 o) ∷ (EInteger 2 o) ∷ (EInteger 0 o) ∷ (EInteger 3 o) ∷ (EInteger 0 o) ∷ (EInteger 9 o) ∷ (EInteger 0 o) ∷ (EInteger 9 o) ∷ (EInteger 0 o) ∷ (EInteger 10 o) ∷ []) o)) o) (decl_then (DObject ((w 49) ∷ []) true (OArray (RGiven (record { first = (EInteger 1 o); last = (EInteger 12 o) })) (record { mark = (w 0); bounds = None })) (Some (IList ((EInteger 1 o) ∷ (EInteger 1 o) ∷ (EInteger 0 o) ∷ (EInteger 0 o) ∷ (EInteger 0 o) ∷ (EInteger 0 o) ∷ (EInteger 0 o) ∷ (EInteger 1 o) ∷ (EInteger 0 o) ∷ (EInteger 2 o) ∷ (EInteger 0 o) ∷ (EInteger 0 o) ∷ []) o)) o) (decl_then (DObject ((w 50) ∷ []) true (OArray (RGiven (record { first = (EInteger 1 o); last = (EInteger 12 o) })) (record { mark = (w 0); bounds = None })) (Some (IList ((EUnary unary.Minus (EInteger 2 o) o) ∷ (EUnary unary.Minus (EInteger 2 o) o) ∷ (EInteger 0 o) ∷ (EInteger 0 o) ∷ (EInteger 0 o) ∷ (EInteger 0 o) ∷ (EInteger 0 o) ∷ (EInteger 0 o) ∷ (EInteger 0 o) ∷ (EInteger 0 o) ∷ (EInteger 0 o) ∷ (EInteger 0 o) ∷ []) o)) o) no_decl))))) (body (stmt_then (SLoop None (Some (LFor (w 51) false (RGiven (record { first = (EInteger 1 o); last = (EInteger 12 o) })))) (stmt_then (SCase (EIndex (w 46) (n 51) o) (case_arm_then (case_arm ((record { first = (EInteger 1 o); last = None }) ∷ []) (stmt_then (SAccept (accepting (record { entry = (w 38); index = (Some (EIndex (w 47) (n 51) o)); formals = ((record { names = ((w 34) ∷ (w 35) ∷ (w 36) ∷ []); mode = mode.Give; mark = (w 0) }) ∷ []); span = o }) (present (stmt_then (SAssign (record { name = (w 34); index = None }) (EIndex (w 48) (n 51) o) o) (stmt_then (SAssign (record { name = (w 35); index = None }) (EIndex (w 49) (n 51) o) o) (stmt_then (SAssign (record { name = (w 36); index = None }) (EIndex (w 50) (n 51) o) o) no_stmt))))) o) no_stmt)) (case_arm_then (case_arm ((record { first = (EInteger 2 o); last = None }) ∷ []) (stmt_then (SAccept (accepting (record { entry = (w 39); index = (Some (EIndex (w 47) (n 51) o)); formals = ([]); span = o }) absent) o) no_stmt)) no_case_arm)) (present (stmt_then (SCase (EIndex (w 47) (n 51) o) (case_arm_then (case_arm ((record { first = (EInteger 1 o); last = None }) ∷ []) (stmt_then (SBlock (body (stmt_then (SCall (record { task = (record { name = (w 26); index = None }); entry = (w 45); args = None }) o) no_stmt) (handler_then (handler ((w 9) ∷ []) (stmt_then (SNull o) no_stmt) o) no_handler)) o) no_stmt)) (case_arm_then (case_arm ((record { first = (EInteger 2 o); last = None }) ∷ []) (stmt_then (SBlock (body (stmt_then (SCall (record { task = (record { name = (w 28); index = None }); entry = (w 45); args = None }) o) no_stmt) (handler_then (handler ((w 9) ∷ []) (stmt_then (SNull o) no_stmt) o) no_handler)) o) no_stmt)) no_case_arm)) (present (stmt_then (SNull o) no_stmt)) o) no_stmt)) o) no_stmt) o) no_stmt) no_handler) o) (decl_then (DTaskBody (w 41) no_decl (body (stmt_then (SWait (alt_then (alternative None (AAccept (accepting (record { entry = (w 43); index = None; formals = ([]); span = o }) absent) no_stmt) o) (alt_then (alternative None ATerminate o) no_alt)) absent o) no_stmt) no_handler) o) no_decl)))))))))); body = (body (stmt_then (SBlock (body (stmt_then (SAssign (record { name = (w 30); index = None }) (EUnary unary.Minus (EInteger 2 o) o) o) (stmt_then (SCall (record { task = (record { name = (w 37); index = None }); entry = (w 38); args = (Some (record { first = ((EInteger 0 o) ∷ []); second = (Some ((n 34) ∷ (n 35) ∷ (n 36) ∷ [])) })) }) o) (stmt_then (SIf (arm_then (arm (EBinary binary.And (EBinary binary.And (EBinary binary.Equal (n 34) (EInteger 1 o) o) (EBinary binary.Equal (n 35) (EInteger 1 o) o) o) (EBinary binary.Equal (n 36) (n 30) o) o) (stmt_then (SCall (record { task = (record { name = (w 26); index = None }); entry = (w 27); args = (Some (record { first = ((n 30) ∷ []); second = None })) }) o) no_stmt)) (arm_then (arm (EBinary binary.And (EBinary binary.And (EBinary binary.Equal (n 34) (EInteger 7 o) o) (EBinary binary.Equal (n 35) (EInteger 1 o) o) o) (EBinary binary.Equal (n 36) (n 30) o) o) (stmt_then (SBlock (body (stmt_then (SCall (record { task = (record { name = (w 26); index = None }); entry = (w 52); args = (Some (record { first = ((n 30) ∷ []); second = None })) }) o) no_stmt) (handler_then (handler ([]) (stmt_then (SCall (record { task = (record { name = (w 37); index = None }); entry = (w 39); args = (Some (record { first = ((EInteger 0 o) ∷ []); second = None })) }) o) (stmt_then (SRaise None o) no_stmt)) o) no_handler)) o) no_stmt)) no_arm)) (present (stmt_then (SCall (record { task = (record { name = (w 41); index = None }); entry = (w 42); args = None }) o) no_stmt)) o) no_stmt))) (handler_then (handler ([]) (stmt_then (SNull o) no_stmt) o) no_handler)) o) (stmt_then (SCall (record { task = (record { name = (w 37); index = None }); entry = (w 38); args = (Some (record { first = ((EInteger 0 o) ∷ []); second = (Some ((n 34) ∷ (n 35) ∷ (n 36) ∷ [])) })) }) o) (stmt_then (SIf (arm_then (arm (EBinary binary.NotEqual (n 34) (EInteger 10 o) o) (stmt_then (SCall (record { task = (record { name = (w 41); index = None }); entry = (w 42); args = None }) o) no_stmt)) no_arm) absent o) no_stmt))) no_handler) }
 
 waits_is_replayed : replay_in waits waits_events ≡ waits_replay
 unfolding digits

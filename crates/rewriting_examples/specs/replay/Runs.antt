@@ -11,7 +11,7 @@ use Rattle.ada_tree.specs.PlainProgram.{PProgram}
 use Rattle.syn_event.specs.Origin.{back_of}
 use Rattle.task_model.specs.Tasks.{Task}
 use Rattle.run_laws.specs.imitation.Shown.{Opened, end_from}
-use Rattle.normal_runs.specs.forms.Normalisable.{numbers_of}
+use Rattle.normal_laws.specs.runs.forms.Normalisable.{numbers_of}
 use Rattle.replay_is_legal.specs.Laws.{text_for}
 use Rattle.replay_runs.specs.controls.replayed.Replaying.{output_after, IsRunWith, IsFeasible, IsOver, shown, ShowsPrefix, GoesOnWith, ShowsAllFeasible, starting}
 

@@ -7,7 +7,7 @@ use Rattle.ada_lexer.specs.Words.{two_letters, three_letters, four_letters, five
 use Rattle.ada_static_rules.specs.Refusals.{types_in}
 use Rattle.syn_event.specs.declared.numbering.Mode.TheVariants.{Original}
 use Rattle.syn_event.specs.Legal.{Legal}
-use Rattle.normal_runs.specs.forms.Normalisable.{numbers_of}
+use Rattle.normal_laws.specs.runs.forms.Normalisable.{numbers_of}
 use Rattle.ada_expr_parser.specs.Tests.{same}
 use Rattle.ada_parser.specs.Reads.{HasItems}
 use Rattle.ada_parser.specs.Exactly.{IsRead}

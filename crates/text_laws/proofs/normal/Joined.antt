@@ -4,9 +4,9 @@ use Rattle.ada_tree.specs.NameList.{predefined}
 use Rattle.ada_static_rules.specs.Refusals.{types_in}
 use Rattle.ada_tree.specs.WellPlaced.{IsWellPlaced}
 use Rattle.ada_parser.proofs.PlacedItems.{read_is_placed}
-use Rattle.normal_runs.specs.forms.Normalisable.{numbers_of}
-use Rattle.normalisable.proofs.units.Fields.{few_names_small}
-use Rattle.normalisable.proofs.Joined.{legal_is_normal, legal_shows_same, legal_is_calm}
+use Rattle.normal_laws.specs.runs.forms.Normalisable.{numbers_of}
+use Rattle.normal_laws.proofs.existence.units.Fields.{few_names_small}
+use Rattle.normal_laws.proofs.existence.Joined.{legal_is_normal, legal_shows_same, legal_is_calm}
 use Rattle.text_laws.proofs.sizes.Read.{read_has_few_names, read_has_names, read_is_light}
 use Rattle.text_laws.specs.normal.Laws.{TextIsLegal, TextIsNormal, TextShowsSame, TextIsCalm}
 

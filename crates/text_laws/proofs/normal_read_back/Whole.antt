@@ -1,6 +1,6 @@
 -- The normal form of a legal program is well placed, so its text is read back.
-use Rattle.normal_runs.specs.forms.Normalisable.{made_for}
-use Rattle.normal_is_legal.proofs.placed.Placed.{normal_is_placed}
+use Rattle.normal_laws.specs.runs.forms.Normalisable.{made_for}
+use Rattle.normal_laws.proofs.legality.placed.Placed.{normal_is_placed}
 use Rattle.read_back.proofs.Whole.{read_back}
 use Rattle.text_laws.proofs.normal.Joined.{text_is_legal}
 use Rattle.text_laws.specs.normal_read_back.Laws.{NormalIsReadBack, TextIsReadBack}

@@ -4,7 +4,7 @@ use Rattle.std.proofs.lemmas.List.Elements.{All-from_recursion}
 use Rattle.common_lemmas.proofs.Truth.{clash}
 use Rattle.seq_file.specs.Files.{SeqReads}
 use Rattle.seq_file.specs.Known.{is_known}
-use Rattle.normal_runs.specs.forms.Normalisable.{numbers_of}
+use Rattle.normal_laws.specs.runs.forms.Normalisable.{numbers_of}
 use Rattle.text_laws.specs.normal.Example.{calling}
 use Rattle.text_laws.proofs.normal.Instance.{calling-is-legal}
 use Rattle.text_laws.specs.replay_read_back.Example.{calling_events, calling_lines}

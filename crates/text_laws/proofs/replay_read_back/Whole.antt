@@ -3,7 +3,7 @@ use Rattle.std.proofs.Common.{◌≡◌, ℕ, true, false, Bool, nat_lt, if◌th
 use Rattle.ada_tree.specs.PlainProgram.{PProgram}
 use Rattle.ada_static_rules.specs.Refusals.{types_in}
 use Rattle.replay_model.specs.ReplayTree.{most_events, replay_tree}
-use Rattle.normal_runs.specs.forms.Normalisable.{numbers_of}
+use Rattle.normal_laws.specs.runs.forms.Normalisable.{numbers_of}
 use Rattle.text_laws.proofs.normal.Joined.{text_is_legal}
 use Rattle.read_back.proofs.Whole.{read_back}
 use Rattle.replay_model.specs.Promised.{IsReplayText}
@@ -27,7 +27,7 @@ of_answer P false text tree h holds = subst P (ap (λ (r : Result PProgram ℕ).
 pub replay_is_promised : ReplayIsPromised
 replay_is_promised bytes p lines events text h =
     of_answer (IsReplayText p (types_in p) (numbers_of p) events) (nat_lt most_events (length events)) text (replay_tree p (types_in p) (numbers_of p) events) h.is
-    (replay_is_as_promised p events (text_is_legal bytes p h.legal) h.sequence.fit.known)
+    (replay_is_as_promised p events (text_is_legal bytes p h.legal) record { each = h.sequence.fit.known; few = h.sequence.fit.few })
 
 pub replay_is_read_back : ReplayIsReadBack
 replay_is_read_back bytes p lines events text h = read_back text (replay_is_promised bytes p lines events text h).placed

@@ -16,7 +16,7 @@ use Rattle.ada_expr_parser.specs.declared.items.Item.{Item}
 use Rattle.ada_expr_parser.specs.Items.{name_text, IsItemOf, interned_if, with_token, names_after}
 use Rattle.ada_phrase_parser.specs.Spelling.{Source}
 use Rattle.ada_parser.specs.Reads.{deepest, program_unit, HasItems, Reads}
-use Rattle.normalisable.specs.units.Weights.{AreLight}
+use Rattle.normal_laws.specs.existence.units.Weights.{AreLight}
 use Rattle.text_laws.specs.sizes.Weight.{decls_weight, program_weight}
 use Rattle.text_laws.specs.sizes.Laws.{ReadHasFewNames, ReadHasNames, ReadWeighsLittle, ReadIsLight}
 use Rattle.text_laws.proofs.sizes.Takes.{unit-takes}

@@ -13,7 +13,7 @@ use Rattle.ada_phrase_parser.specs.Phrases.{AcceptHead, DelayOf}
 use Rattle.ada_stmt_parser.specs.Statements.{Callee, Call, IsStmt, AnyStmts, Stmts, ElsePart, OthersPart, IsAccept, IsAltKind, IsAlts, MoreAlts, IsArms, MoreArms, IsCaseArms, IsBody, HandlerPart, MoreHandlers}
 use Rattle.ada_parser.specs.Declarations.{IsDecl, Decls}
 use Rattle.ada_parser.specs.Units.{PUnit, IsUnit}
-use Rattle.normalisable.specs.units.Weights.{row_weight, args_weight, call_weight, own_weight, parts_weight, stmts_weight, maybe_weight, accept_weight, kind_weight, alts_weight, arms_weight, case_arms_weight, body_weight, handlers_weight}
+use Rattle.normal_laws.specs.existence.units.Weights.{row_weight, args_weight, call_weight, own_weight, parts_weight, stmts_weight, maybe_weight, accept_weight, kind_weight, alts_weight, arms_weight, case_arms_weight, body_weight, handlers_weight}
 use Rattle.text_laws.specs.sizes.Weight.{decl_weight, decls_weight}
 
 -- each such piece has at least so many items

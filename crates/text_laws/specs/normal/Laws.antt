@@ -6,11 +6,11 @@ use Rattle.ada_parser.specs.Reads.{Reads}
 use Rattle.syn_event.specs.declared.numbering.Mode.TheVariants.{Original}
 use Rattle.syn_event.specs.Legal.{Legal}
 use Rattle.run_laws.specs.imitation.Shown.{ShowSame, AllFreeAre}
-use Rattle.normal_structure.specs.units.Laws.{numbers_made}
-use Rattle.normal_runs.specs.runs.Laws.{opened, IsCalm}
-use Rattle.normal_runs.specs.runs.Premises.{IsNormalForm}
-use Rattle.normal_runs.specs.forms.Normalisable.{numbers_of, made_for, normal_rewrite}
-use Rattle.normalisable.specs.Laws.{IsLegalOriginal}
+use Rattle.normal_laws.specs.structure.units.Laws.{numbers_made}
+use Rattle.normal_laws.specs.runs.runs.Laws.{opened, IsCalm}
+use Rattle.normal_laws.specs.runs.runs.Premises.{IsNormalForm}
+use Rattle.normal_laws.specs.runs.forms.Normalisable.{numbers_of, made_for, normal_rewrite}
+use Rattle.normal_laws.specs.existence.Laws.{IsLegalOriginal}
 use Rattle.debug_outcome.specs.files.Wanting.{text_limit}
 use Rattle.text_laws.specs.normal.Example.{calling_text, calling}
 

@@ -4,8 +4,8 @@ use Rattle.ada_tree.specs.PlainProgram.{PProgram}
 use Rattle.ada_tree.specs.Same.{Same}
 use Rattle.ada_parser.specs.Reads.{Reads}
 use Rattle.ada_printer.specs.ProgramText.{program_text}
-use Rattle.normal_runs.specs.forms.Normalisable.{made_for}
-use Rattle.normalisable.specs.Laws.{IsLegalOriginal}
+use Rattle.normal_laws.specs.runs.forms.Normalisable.{made_for}
+use Rattle.normal_laws.specs.existence.Laws.{IsLegalOriginal}
 use Rattle.text_laws.specs.normal.Example.{calling_text, calling}
 use Rattle.text_laws.specs.normal.Laws.{IsOriginalText}
 

@@ -4,7 +4,7 @@ use Rattle.std.specs.Prelude.{ℕ, pos, List, [], ◌∷◌}
 use Rattle.event_machine.specs.declared.Event.{Event}
 use Rattle.event_machine.specs.declared.Event.TheVariants.{R, E, X, Z}
 use Rattle.seq_file.specs.Files.{SeqText}
-use Rattle.normal_runs.specs.forms.Normalisable.{numbers_of}
+use Rattle.normal_laws.specs.runs.forms.Normalisable.{numbers_of}
 use Rattle.text_laws.specs.normal.Example.{calling}
 
 abbrev pub calling_events : List Event

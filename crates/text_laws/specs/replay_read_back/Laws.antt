@@ -8,7 +8,7 @@ use Rattle.ada_printer.specs.ProgramText.{program_text}
 use Rattle.event_machine.specs.declared.Event.{Event}
 use Rattle.seq_file.specs.Files.{SeqReads}
 use Rattle.replay_model.specs.ReplayTree.{replay_tree, replayed}
-use Rattle.normal_runs.specs.forms.Normalisable.{numbers_of}
+use Rattle.normal_laws.specs.runs.forms.Normalisable.{numbers_of}
 use Rattle.text_laws.specs.normal.Example.{calling_text, calling}
 use Rattle.text_laws.specs.normal.Laws.{IsOriginalText}
 use Rattle.text_laws.specs.replay_read_back.Example.{calling_events, calling_lines}

@@ -3,7 +3,7 @@ use Rattle.std.specs.Prelude.{ℕ, ◌+◌, ◌<◌, ◌≤◌, ◌^◌, List, l
 use Rattle.ada_tree.specs.NameList.{predefined, AreNames}
 use Rattle.ada_tree.specs.PlainProgram.{PProgram}
 use Rattle.ada_parser.specs.Reads.{Reads}
-use Rattle.normalisable.specs.units.Weights.{IsLight}
+use Rattle.normal_laws.specs.existence.units.Weights.{IsLight}
 use Rattle.text_laws.specs.sizes.Weight.{program_weight}
 
 -- A program that is read has at most as many names as its text has bytes, besides the predefined ones.

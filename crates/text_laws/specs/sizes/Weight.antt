@@ -2,7 +2,7 @@
 use Rattle.std.specs.Prelude.{ℕ, ◌+◌}
 use Rattle.ada_tree.specs.PlainDecl.{PDecl, DTaskBody, PDecls, no_decl, decl_then}
 use Rattle.ada_tree.specs.PlainProgram.{PProgram}
-use Rattle.normalisable.specs.units.Weights.{body_weight}
+use Rattle.normal_laws.specs.existence.units.Weights.{body_weight}
 
 -- the weight of the body that a declaration has
 abbrev pub decl_weight : PDecl → ℕ

@@ -10,7 +10,8 @@ use Rattle.debug_outcome.specs.Outcomes.{Outcome}
 use Rattle.debug_outcome.specs.declared.stopping.Stop.{Stop}
 use Rattle.debug_outcome.proofs.Comings.{comes_more, stops_come, stops_more}
 use Rattle.debug_sequence.specs.Sequences.{IsRefusedSequence}
-use Rattle.debug_replay.specs.inner.Printing.{printed_outcome, ComeTo}
+use Rattle.debug_outcome.specs.Printing.{printed_outcome}
+use Rattle.debug_replay.specs.inner.Printing.{ComeTo}
 use Rattle.debug_replay.specs.ReplayOutcomes.{ReplaysLines, refusal_of_replay}
 use Rattle.debug_replay.proofs.Keeping.{called}
 use Rattle.debug_replay.proofs.OwnTasks.{lists_for_all}
@@ -32,10 +33,10 @@ returns-in-Ok-replay g c =
     let p : PProgram = plain_program c.args.program.now in
     let made : replayed p c.args.types.now c.args.numbers.now c.in-Ok.events.items ≡ Ok (plain_program c.in-Ok-replay.text) = subst (λ (es : List Event). replayed p c.args.types.now c.args.numbers.now es ≡ Ok (plain_program c.in-Ok-replay.text)) c.deref.ensures.value c.in-Ok-replay.ensures.text in
     comes_more (λ o. o ≡ printed_outcome (plain_program c.in-Ok-replay.text)) (ReplaysLines p c.args.types.now c.args.numbers.now c.args.lines.now) Never Never
-    (g.K.Sink.told c.args.out.now) (g.K.Sink.told c.put_text.new.out) (g.K.Sink.faults c.args.out.now) (g.K.Sink.faults c.put_text.new.out) c.put_text.result
+    (g.K.Sink.told c.args.out.now) (g.K.Sink.told c.write_text.new.out) (g.K.Sink.faults c.args.out.now) (g.K.Sink.faults c.write_text.new.out) c.write_text.result
     (λ o is. called p c.requires.legal c.args.lines.now c.args.types.now c.args.numbers.now c.requires.own o
     (text_called p c.args.types.now c.args.numbers.now c.args.lines.now c.in-Ok.events.items c.in-Ok.ensures.reads (plain_program c.in-Ok-replay.text) o made is)) (λ o never. never)
-    c.put_text.ensures
+    c.write_text.ensures
 
 pub returns : goal.returns
 returns g c =

@@ -4,13 +4,13 @@ use Rattle.ada_tree.specs.Attributes.{false_name}
 use Rattle.ada_tree.specs.PlainProgram.{PProgram}
 use Rattle.ada_static_rules.specs.Refusals.{types_in}
 use Rattle.normal_model.specs.Ranges.{kind_name}
-use Rattle.normal_runs.specs.forms.Normalisable.{numbers_of, made_for}
-use Rattle.normalisable.specs.Laws.{IsLegalOriginal}
+use Rattle.normal_laws.specs.runs.forms.Normalisable.{numbers_of, made_for}
+use Rattle.normal_laws.specs.existence.Laws.{IsLegalOriginal}
 use Rattle.replay_structure.specs.typed.ScopeOf.{AreOuter}
 use Rattle.replay_structure.specs.checkable.Prepared.{form_for}
 use Rattle.replay_structure.specs.scopes.Names.{old_name}
 use Rattle.replay_structure.specs.scopes.Form.{AreNamesApart, AreAddedNames}
-use Rattle.replay_structure.proofs.scopes.Names.{entries-new, permits-new, control-new, idle-new, control-other, idle-other, tasks-apart, entries-apart}
+use Rattle.replay_structure.proofs.scopes.Names.{entries-new, permits-new, tables-new, control-new, idle-new, control-other, idle-other, tasks-apart, entries-apart}
 use Rattle.replay_is_legal.proofs.names.form_names.Olds.{own-old, first-old}
 use Rattle.replay_is_legal.proofs.names.form_names.TypeNames.{kinds-own}
 
@@ -26,6 +26,7 @@ module _ (p : PProgram) (h : IsLegalOriginal p) where
     outer = outer;
     entries = entries-new q;
     permits = permits-new q;
+    tables = tables-new q;
     zero = first-old p h 0 (omega arith);
     falses = first-old p h false_name (omega arith);
     kinds = kinds-old;

@@ -13,12 +13,12 @@ use Rattle.task_model.specs.Setting.{Setting}
 use Rattle.normal_model.specs.Names.{variable_name}
 use Rattle.normal_model.specs.Ranges.{word_at}
 use Rattle.normal_model.specs.Variables.{variable_declared}
-use Rattle.normal_structure.proofs.numbers.Listed.{IsOneTask, IsOneBody}
-use Rattle.normal_structure.specs.checked.Around.{own_rules}
+use Rattle.normal_laws.proofs.structure.numbers.Listed.{IsOneTask, IsOneBody}
+use Rattle.normal_laws.specs.structure.checked.Around.{own_rules}
 use Rattle.legal_programs.specs.alike_scopes.Old.{IsOldDrange}
 use Rattle.legal_programs.specs.alike_scopes.Laws.{IsMetBut}
-use Rattle.normal_structure.proofs.typed.Stays.{old-subind, old-drange, old-formals}
-use Rattle.normal_structure.proofs.typed.Declared.{old-shape, old-init}
+use Rattle.normal_laws.proofs.structure.typed.Stays.{old-subind, old-drange, old-formals}
+use Rattle.normal_laws.proofs.structure.typed.Declared.{old-shape, old-init}
 use Rattle.replay_structure.proofs.checked.Along.{OnTask}
 use Rattle.replay_structure.specs.scopes.More.{AreDoubled}
 use Rattle.replay_structure.specs.scopes.Form.{IsOldEntry, HasOldInit, IsOwnObject, IsVariableOf, IsTaskOf, IsEveryTask}

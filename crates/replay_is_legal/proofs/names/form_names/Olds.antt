@@ -12,15 +12,16 @@ use Rattle.ada_tree.specs.PlainProgram.{PProgram}
 use Rattle.syn_event.specs.Numbering.{Numbering}
 use Rattle.syn_event.specs.DeclaredTasks.{text_of, tasks_of}
 use Rattle.normal_model.specs.NormalTree.{variables_needed, normal_tree}
-use Rattle.normal_structure.specs.types.Own.{own_name}
-use Rattle.normal_structure.proofs.numbers.Named.{text-longer, own-within, own-not-added, begins-within}
-use Rattle.normal_structure.proofs.numbers.TaskNames.{normal-begins}
-use Rattle.normal_runs.specs.forms.Normalisable.{setting_for, made_for}
-use Rattle.normal_structure.proofs.placed.Names.{first-named}
-use Rattle.normal_is_legal.proofs.declares_once.Ids.{first-free}
-use Rattle.normalisable.specs.Laws.{IsLegalOriginal}
-use Rattle.normal_is_legal.proofs.checks.Facts as facts
-use Rattle.replay_model.specs.Names.{kind_text, argument_text, index_text, control_text, idle_text, never_text, join_text, double_text, double_texts}
+use Rattle.normal_laws.specs.structure.types.Own.{own_name}
+use Rattle.normal_laws.proofs.structure.numbers.Named.{text-longer, own-within, own-not-added, begins-within}
+use Rattle.normal_laws.proofs.structure.numbers.TaskNames.{normal-begins}
+use Rattle.normal_laws.specs.runs.forms.Normalisable.{setting_for, made_for}
+use Rattle.normal_laws.proofs.structure.placed.Names.{first-named}
+use Rattle.normal_laws.proofs.legality.declares_once.Ids.{first-free}
+use Rattle.normal_laws.specs.existence.Laws.{IsLegalOriginal}
+use Rattle.normal_laws.proofs.legality.checks.Facts as facts
+use Rattle.replay_model.specs.Names.{double_text, double_texts}
+use Rattle.replay_structure.specs.declares_once.Names.{declared_texts}
 use Rattle.replay_structure.proofs.declares_once.Ids.{IsOwn}
 use Rattle.replay_structure.proofs.declares_once.Texts.{good-own}
 use Rattle.replay_structure.specs.scopes.Names.{new_texts, old_name}
@@ -51,10 +52,6 @@ none-doubled names t h (x ∷ xs) = none-joined (bytes_eq t) (double_texts names
     of-entries [] = refl
     of-entries (e ∷ es) = or_from (bytes_eq t (double_text (text_of names e.name.name))) _ (no-double t (text_of names e.name.name) h) (of-entries es)
 
--- the texts to which a replay text gives a meaning, but for those of doubles
-abbrev first_texts : List (List ℕ)
-first_texts = kind_text ∷ argument_text ∷ index_text ∷ control_text ∷ idle_text ∷ never_text ∷ join_text ∷ []
-
 -- ---- names
 
 module _ (q : PProgram) where
@@ -62,11 +59,11 @@ module _ (q : PProgram) where
   pub new-old : (x : ℕ) → IsOwn q.names x → old_name q x ≡ true
   new-old x o = by_place (slice_get q.names x) refl o
     where
-      by_place : (s : Option (List ℕ)) → slice_get q.names x ≡ s → IsSomeAnd s (λ t. (list_any (bytes_eq t) first_texts || is_double t) ≡ false) → old_name q x ≡ true
+      by_place : (s : Option (List ℕ)) → slice_get q.names x ≡ s → IsSomeAnd s (λ t. (list_any (bytes_eq t) declared_texts || is_double t) ≡ false) → old_name q x ≡ true
       by_place None e k = absurd k
       by_place (Some t) e k =
-          let two = or_parts (list_any (bytes_eq t) first_texts) (is_double t) k in
-          let none : list_any (bytes_eq t) (new_texts q) ≡ false = none-joined (bytes_eq t) first_texts (flat_map (double_texts q.names) (tasks_of q)) two.0 (none-doubled q.names t two.1 (tasks_of q)) in
+          let two = or_parts (list_any (bytes_eq t) declared_texts) (is_double t) k in
+          let none : list_any (bytes_eq t) (new_texts q) ≡ false = none-joined (bytes_eq t) declared_texts (flat_map (double_texts q.names) (tasks_of q)) two.0 (none-doubled q.names t two.1 (tasks_of q)) in
           let same : text_of q.names (record { 0 = x }) ≡ t = ap (λ (s : Option (List ℕ)). unwrap_or s []) e in
           ap₂ (λ (a b : Bool). a && not b) (lt-ltb x (length q.names) (slice_get_within q.names x t e)) (subst (λ v. list_any (bytes_eq v) (new_texts q) ≡ false) (sym same) none)
 

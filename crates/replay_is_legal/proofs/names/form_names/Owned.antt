@@ -6,12 +6,12 @@ use Rattle.ada_tree.specs.PlainProgram.{PProgram}
 use Rattle.ada_tree.specs.Every.{Rules, EveryDecl, EveryDecls, EveryProgram}
 use Rattle.ada_static_rules.specs.Refusals.{types_in}
 use Rattle.syn_event.specs.DeclaredTasks.{decl_list}
-use Rattle.normal_structure.specs.types.Own.{own_name}
-use Rattle.normal_structure.specs.checked.Around.{own_rules}
-use Rattle.normal_structure.proofs.checked.Owned.{own-together}
-use Rattle.normal_runs.specs.forms.Normalisable.{numbers_of, made_for}
-use Rattle.normalisable.specs.Laws.{IsLegalOriginal}
-use Rattle.normal_is_legal.proofs.checks.Facts as facts
+use Rattle.normal_laws.specs.structure.types.Own.{own_name}
+use Rattle.normal_laws.specs.structure.checked.Around.{own_rules}
+use Rattle.normal_laws.proofs.structure.checked.Owned.{own-together}
+use Rattle.normal_laws.specs.runs.forms.Normalisable.{numbers_of, made_for}
+use Rattle.normal_laws.specs.existence.Laws.{IsLegalOriginal}
+use Rattle.normal_laws.proofs.legality.checks.Facts as facts
 use Rattle.replay_structure.proofs.checkable.Kept.{rules_of}
 use Rattle.replay_is_legal.proofs.Kept.{main-kept}
 use Rattle.replay_is_legal.proofs.Declared.{declarations-kept}

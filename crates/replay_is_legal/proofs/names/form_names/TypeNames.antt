@@ -15,10 +15,10 @@ use Rattle.legal_programs.specs.rewritten_types.Rewriting.{valued}
 use Rattle.legal_programs.proofs.rewritten_types.Refused.{declared_once}
 use Rattle.legal_programs.proofs.rewritten_types.Unmarked.{unvalued_has_no_mark}
 use Rattle.normal_model.specs.Ranges.{kind_name}
-use Rattle.normal_structure.specs.types.Own.{own_name}
-use Rattle.normalisable.proofs.variable_types.SubtypeForms.{meant-own}
-use Rattle.normalisable.specs.Laws.{IsLegalOriginal}
-use Rattle.normal_is_legal.proofs.checks.Facts as facts
+use Rattle.normal_laws.specs.structure.types.Own.{own_name}
+use Rattle.normal_laws.proofs.existence.variable_types.SubtypeForms.{meant-own}
+use Rattle.normal_laws.specs.existence.Laws.{IsLegalOriginal}
+use Rattle.normal_laws.proofs.legality.checks.Facts as facts
 
 module _ (p : PProgram) (h : IsLegalOriginal p) where
   abbrev T : TypeTable

@@ -15,18 +15,18 @@ use Rattle.syn_event.specs.DeclaredTasks.{decl_list}
 use Rattle.syn_event.proofs.DeclLists.{every_listed}
 use Rattle.task_model.specs.Setting.{Setting}
 use Rattle.normal_model.specs.NormalTree.{first_decls, main_unit, variables_needed}
-use Rattle.normal_structure.specs.types.Own.{own_name}
-use Rattle.normal_structure.proofs.types.Variables.{unit-all}
-use Rattle.normal_structure.proofs.numbers.Listed.{IsOneTask, IsOneBody, firsts, vars, tasks, bodies, tasks-all, bodies-all, normal-list}
-use Rattle.normal_structure.proofs.numbers.Named.{added-longer, own-within, own-not-added}
-use Rattle.normal_structure.proofs.numbers.TaskNames.{normal-begins}
-use Rattle.normal_structure.specs.checked.Around.{own_rules}
-use Rattle.normal_runs.specs.forms.Normalisable.{numbers_of, setting_for, made_for}
-use Rattle.normalisable.specs.Laws.{IsLegalOriginal}
-use Rattle.normal_is_legal.proofs.checks.Facts as facts
+use Rattle.normal_laws.specs.structure.types.Own.{own_name}
+use Rattle.normal_laws.proofs.structure.types.Variables.{unit-all}
+use Rattle.normal_laws.proofs.structure.numbers.Listed.{IsOneTask, IsOneBody, firsts, vars, tasks, bodies, tasks-all, bodies-all, normal-list}
+use Rattle.normal_laws.proofs.structure.numbers.Named.{added-longer, own-within, own-not-added}
+use Rattle.normal_laws.proofs.structure.numbers.TaskNames.{normal-begins}
+use Rattle.normal_laws.specs.structure.checked.Around.{own_rules}
+use Rattle.normal_laws.specs.runs.forms.Normalisable.{numbers_of, setting_for, made_for}
+use Rattle.normal_laws.specs.existence.Laws.{IsLegalOriginal}
+use Rattle.normal_laws.proofs.legality.checks.Facts as facts
 use Rattle.replay_model.specs.ReplayTree.{is_added_object, is_task, is_body}
 use Rattle.replay_structure.proofs.texts.Listed.{normal-plain, normal-tasks, normal-bodies}
-use Rattle.normal_structure.proofs.types.NamesApart.{normal-apart}
+use Rattle.normal_laws.proofs.structure.types.NamesApart.{normal-apart}
 use Rattle.replay_structure.proofs.checked.Along.{OnTask, on-tasks}
 use Rattle.replay_structure.proofs.checkable.Kept.{rules_of}
 use Rattle.replay_structure.proofs.checkable.KeptDecls.{firsts-kept}

@@ -18,9 +18,9 @@ use Rattle.legal_programs.specs.rewritten_types.Agreement.{Keeps}
 use Rattle.legal_programs.specs.rewritten_types.Rewriting.{IsAdded}
 use Rattle.legal_programs.proofs.rewritten_types.Keeping.{keeps-self}
 use Rattle.legal_programs.proofs.rewritten_types.Adding.{keeps-objects}
-use Rattle.normal_runs.specs.forms.Normalisable.{made_for}
-use Rattle.normalisable.specs.Laws.{IsLegalOriginal}
-use Rattle.normal_is_legal.proofs.scopes.Main.{tasked}
+use Rattle.normal_laws.specs.runs.forms.Normalisable.{made_for}
+use Rattle.normal_laws.specs.existence.Laws.{IsLegalOriginal}
+use Rattle.normal_laws.proofs.legality.scopes.Main.{tasked}
 use Rattle.legal_programs.specs.alike_scopes.Alike.{SameNames, Alike}
 use Rattle.legal_programs.specs.alike_scopes.Old.{IsOldObject}
 use Rattle.legal_programs.specs.alike_scopes.Laws.{IsMetBut}

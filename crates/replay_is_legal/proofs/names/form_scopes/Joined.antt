@@ -15,19 +15,19 @@ use Rattle.legal_programs.proofs.rewritten_types.Keeping.{grows-on}
 use Rattle.legal_programs.proofs.rewritten_types.Adding.{keeps-decls}
 use Rattle.legal_programs.proofs.types.MainScopes.{grows-decls}
 use Rattle.legal_programs.specs.alike_scopes.Alike.{SameNames}
-use Rattle.normal_runs.specs.forms.Normalisable.{numbers_of, made_for}
-use Rattle.normalisable.specs.Laws.{IsLegalOriginal}
-use Rattle.normal_structure.proofs.numbers.Listed.{tasks-all, first-plain, normal-list}
+use Rattle.normal_laws.specs.runs.forms.Normalisable.{numbers_of, made_for}
+use Rattle.normal_laws.specs.existence.Laws.{IsLegalOriginal}
+use Rattle.normal_laws.proofs.structure.numbers.Listed.{tasks-all, first-plain, normal-list}
 use Rattle.replay_structure.proofs.texts.Listed.{normal-tasks, normal-bodies}
-use Rattle.normal_structure.proofs.types.Variables.{are-added, task-added, tasks-only, unit-all}
-use Rattle.normal_is_legal.proofs.Legal.{normal_meets_at_places}
-use Rattle.normal_is_legal.proofs.scopes.Plain.{predefined-plain}
-use Rattle.normal_is_legal.proofs.scopes.Fixed.{apart-variable}
-use Rattle.normal_is_legal.proofs.scopes.Main as main
-use Rattle.normal_is_legal.proofs.scopes.Main.{g}
-use Rattle.normal_is_legal.proofs.scopes.Starts.{bodied-tasked}
-use Rattle.normal_is_legal.proofs.variables_marked.Subtypes.{variables-known}
-use Rattle.normal_is_legal.proofs.variables_marked.Scopes.{first-ready}
+use Rattle.normal_laws.proofs.structure.types.Variables.{are-added, task-added, tasks-only, unit-all}
+use Rattle.normal_laws.proofs.legality.Legal.{normal_meets_at_places}
+use Rattle.normal_laws.proofs.legality.scopes.Plain.{predefined-plain}
+use Rattle.normal_laws.proofs.legality.scopes.Fixed.{apart-variable}
+use Rattle.normal_laws.proofs.legality.scopes.Main as main
+use Rattle.normal_laws.proofs.legality.scopes.Main.{g}
+use Rattle.normal_laws.proofs.legality.scopes.Starts.{bodied-tasked}
+use Rattle.normal_laws.proofs.legality.variables_marked.Subtypes.{variables-known}
+use Rattle.normal_laws.proofs.legality.variables_marked.Scopes.{first-ready}
 use Rattle.replay_structure.specs.checkable.Prepared.{form_for}
 use Rattle.replay_model.specs.ReplayTree.{is_task, is_body}
 use Rattle.replay_structure.specs.scopes.More.{IsReady}

@@ -13,11 +13,11 @@ use Rattle.legal_programs.specs.rewritten_types.Rewriting.{DeclareOnce, NamesOnc
 use Rattle.legal_programs.proofs.rewritten_types.Fresh.{first-here}
 use Rattle.legal_programs.proofs.rewritten_types.Refused.{declared_once}
 use Rattle.legal_programs.proofs.types.GoodScopes.{names-kept}
-use Rattle.normal_runs.specs.forms.Normalisable.{made_for}
-use Rattle.normalisable.specs.Laws.{IsLegalOriginal}
-use Rattle.normal_is_legal.proofs.Legal.{normal_meets_types}
-use Rattle.normal_is_legal.proofs.scopes.Later.{decls-kept}
-use Rattle.normal_is_legal.proofs.scopes.Main.{first, tasked, made-means}
+use Rattle.normal_laws.specs.runs.forms.Normalisable.{made_for}
+use Rattle.normal_laws.specs.existence.Laws.{IsLegalOriginal}
+use Rattle.normal_laws.proofs.legality.Legal.{normal_meets_types}
+use Rattle.normal_laws.proofs.legality.scopes.Later.{decls-kept}
+use Rattle.normal_laws.proofs.legality.scopes.Main.{first, tasked, made-means}
 
 -- INTEGER, FALSE and TASKING_ERROR mean what they mean before all declarations
 pub record KnowsLanguage (c : Scope) : Type 0 where

@@ -25,19 +25,19 @@ use Rattle.legal_programs.proofs.rewritten_types.Soundness.{sound-decls, sound-f
 use Rattle.legal_programs.proofs.rewritten_types.Owning.{whole-decls, whole-first}
 use Rattle.legal_programs.proofs.types.GoodScopes.{names-kept}
 use Rattle.legal_programs.proofs.types.TypedValues.{anybody}
-use Rattle.normalisable.specs.Laws.{IsLegalOriginal}
-use Rattle.normal_structure.proofs.numbers.Listed.{IsOneTask}
+use Rattle.normal_laws.specs.existence.Laws.{IsLegalOriginal}
+use Rattle.normal_laws.proofs.structure.numbers.Listed.{IsOneTask}
 use Rattle.legal_programs.specs.alike_scopes.Alike.{SameScalar, of_values, a_task, SameThing, same_variable, no_values, SameNames}
 use Rattle.legal_programs.proofs.alike_scopes.Tables.{types-self}
 use Rattle.legal_programs.proofs.alike_scopes.Marks.{thing-grown}
 use Rattle.legal_programs.proofs.alike_scopes.Naming.{name-both, tables-kept}
-use Rattle.normal_is_legal.proofs.scopes.Parts.{HasParts, parts-first, parts-decl}
-use Rattle.normal_is_legal.proofs.scopes.Kept.{is_same}
-use Rattle.normal_is_legal.proofs.scopes.Base.{base-same}
-use Rattle.normal_is_legal.proofs.scopes.Main.{g, first, walked}
-use Rattle.normal_is_legal.proofs.variables_marked.Static.{names-fewer}
-use Rattle.normal_is_legal.proofs.variables_marked.Subtypes.{IsKnown}
-use Rattle.normal_is_legal.proofs.variables_marked.Steps.{IsReady, IsBehind, variable-behind, AreKnown}
+use Rattle.normal_laws.proofs.legality.scopes.Parts.{HasParts, parts-first, parts-decl}
+use Rattle.normal_laws.proofs.legality.scopes.Kept.{is_same}
+use Rattle.normal_laws.proofs.legality.scopes.Base.{base-same}
+use Rattle.normal_laws.proofs.legality.scopes.Main.{g, first, walked}
+use Rattle.normal_laws.proofs.legality.variables_marked.Static.{names-fewer}
+use Rattle.normal_laws.proofs.legality.variables_marked.Subtypes.{IsKnown}
+use Rattle.normal_laws.proofs.legality.variables_marked.Steps.{IsReady, IsBehind, variable-behind, AreKnown}
 
 -- Each name means what it means itself, and each kind of values has a mark.
 pub record IsSelf (c : Scope) : Type 0 where

@@ -17,19 +17,19 @@ use Rattle.syn_event.proofs.DeclLists.{listed_back}
 use Rattle.task_model.specs.Setting.{Setting}
 use Rattle.normal_model.specs.NormalStmts.{unit_variables, normal_body}
 use Rattle.normal_model.specs.NormalTree.{decls_front, tasks_beside, running, unit_for, body_copy, bodies_of}
-use Rattle.normal_structure.proofs.units.Tasks.{list-front}
-use Rattle.normal_structure.proofs.types.Variables.{unit-all}
+use Rattle.normal_laws.proofs.structure.units.Tasks.{list-front}
+use Rattle.normal_laws.proofs.structure.types.Variables.{unit-all}
 use Rattle.legal_programs.specs.rewritten_types.Rewriting.{IsNew}
-use Rattle.normal_structure.specs.asked.Pieces.{IsAmong}
-use Rattle.normalisable.specs.Laws.{IsLegalOriginal}
-use Rattle.normal_structure.proofs.placed.Made.{among}
-use Rattle.normal_structure.proofs.placed.Whole.{each-of}
-use Rattle.normal_structure.proofs.typed.Scopes.{differ}
-use Rattle.normal_is_legal.proofs.scopes.Plain.{predefined-plain}
-use Rattle.normal_is_legal.proofs.scopes.Main.{g, old, tasked, tasked-there}
-use Rattle.normal_is_legal.proofs.scopes.Fixed.{apart-variable}
-use Rattle.normal_is_legal.proofs.scopes.Outer.{IsLocal, AreLocal}
-use Rattle.normal_is_legal.proofs.variables_marked.Scopes.{BodiesLocal, bodies-local}
+use Rattle.normal_laws.specs.structure.asked.Pieces.{IsAmong}
+use Rattle.normal_laws.specs.existence.Laws.{IsLegalOriginal}
+use Rattle.normal_laws.proofs.structure.placed.Made.{among}
+use Rattle.normal_laws.proofs.structure.placed.Whole.{each-of}
+use Rattle.normal_laws.proofs.structure.typed.Scopes.{differ}
+use Rattle.normal_laws.proofs.legality.scopes.Plain.{predefined-plain}
+use Rattle.normal_laws.proofs.legality.scopes.Main.{g, old, tasked, tasked-there}
+use Rattle.normal_laws.proofs.legality.scopes.Fixed.{apart-variable}
+use Rattle.normal_laws.proofs.legality.scopes.Outer.{IsLocal, AreLocal}
+use Rattle.normal_laws.proofs.legality.variables_marked.Scopes.{BodiesLocal, bodies-local}
 use Rattle.replay_structure.specs.typed.ScopeOf.{IsSingle}
 use Rattle.replay_structure.proofs.scopes.Permit.{only}
 

@@ -6,8 +6,8 @@ use Rattle.ada_tree.specs.declared.naming.Word.{Word}
 use Rattle.ada_tree.specs.PlainDecl.{PDecl, DNumber, DObject, DEnumeration, DArray, DSubtype, DException, DIntIo, DPragma, DTask, DTaskBody, decls_of}
 use Rattle.ada_static_rules.specs.Scope.{Scope, Thing, TypeMark, ConstantObject, Literal, AnException, AnotherUnit, meaning}
 use Rattle.ada_static_rules.specs.Declaring.{with_name, with_names, type_of_mark, declared_object, first_scope, made_named_array, made_subtype, after_decl, after_decls}
-use Rattle.normal_structure.proofs.numbers.Listed.{IsPlain}
-use Rattle.normal_structure.proofs.typed.Scopes.{meaning-more}
+use Rattle.normal_laws.proofs.structure.numbers.Listed.{IsPlain}
+use Rattle.normal_laws.proofs.structure.typed.Scopes.{meaning-more}
 use Rattle.legal_programs.proofs.alike_scopes.Examples.{meant}
 use Rattle.replay_structure.specs.scopes.More.{is_single}
 use Rattle.replay_structure.proofs.scopes.More.{declared-single}

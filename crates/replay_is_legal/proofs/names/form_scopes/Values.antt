@@ -24,14 +24,14 @@ use Rattle.legal_programs.proofs.types.MainScopes.{StandsWhole, last-stands, gro
 use Rattle.legal_programs.proofs.types.LaterScopes.{valued-means}
 use Rattle.legal_programs.proofs.types.TypedValues.{anybody}
 use Rattle.legal_programs.proofs.alike_scopes.Tables.{value-kept}
-use Rattle.normal_structure.proofs.types.Names.{names-begin}
-use Rattle.normal_structure.proofs.numbers.Named.{text-longer, begins-within}
-use Rattle.normal_runs.specs.forms.Normalisable.{made_for}
-use Rattle.normalisable.specs.Laws.{IsLegalOriginal}
-use Rattle.normal_is_legal.specs.scopes.Plain.{plain_name}
-use Rattle.normal_is_legal.proofs.scopes.Names.{plain-free, plain-within}
-use Rattle.normal_is_legal.proofs.scopes.Main.{g, last, first, rules, last-placed}
-use Rattle.normal_is_legal.proofs.scopes.Fixed.{literal-plain}
+use Rattle.normal_laws.proofs.structure.types.Names.{names-begin}
+use Rattle.normal_laws.proofs.structure.numbers.Named.{text-longer, begins-within}
+use Rattle.normal_laws.specs.runs.forms.Normalisable.{made_for}
+use Rattle.normal_laws.specs.existence.Laws.{IsLegalOriginal}
+use Rattle.normal_laws.specs.legality.scopes.Plain.{plain_name}
+use Rattle.normal_laws.proofs.legality.scopes.Names.{plain-free, plain-within}
+use Rattle.normal_laws.proofs.legality.scopes.Main.{g, last, first, rules, last-placed}
+use Rattle.normal_laws.proofs.legality.scopes.Fixed.{literal-plain}
 use Rattle.replay_model.specs.Names.{kind_text, argument_text, index_text, added_id}
 use Rattle.replay_structure.specs.typed.Controller.{IsInteger}
 use Rattle.replay_structure.specs.scopes.More.{ArePermitsNew, IsReady}

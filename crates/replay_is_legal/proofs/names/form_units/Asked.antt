@@ -16,7 +16,7 @@ use Rattle.legal_programs.specs.asked.Kinds.{type_asks, both}
 use Rattle.legal_programs.proofs.asked.Typed.{typed_asked}
 use Rattle.legal_programs.proofs.asked.Together.{both_asked}
 use Rattle.legal_programs.specs.alike_scopes.Laws.{IsMetBut}
-use Rattle.normal_structure.proofs.typed.Variables.{AllMetBut}
+use Rattle.normal_laws.proofs.structure.typed.Variables.{AllMetBut}
 use Rattle.replay_structure.specs.typed.ScopeOf.{AreInner, IsInnerScheme, with_scopes}
 use Rattle.replay_structure.proofs.scopes.Weaker.{AsksLess, asked_less}
 use Rattle.replay_structure.proofs.scopes.Asked.{wait_asks}

@@ -23,26 +23,26 @@ use Rattle.normal_model.specs.Ranges.{word_at, kind_name}
 use Rattle.normal_model.specs.NormalStmts.{unit_variables, normal_body}
 use Rattle.normal_model.specs.NormalTree.{decls_front, first_decls, tasks_beside, task_declared, running, unit_for, main_unit, main_variables, body_copy, bodies_of}
 use Rattle.normal_model.proofs.VariablesLemmas.{begins-refl}
-use Rattle.normal_structure.proofs.types.Normal.{front-after}
-use Rattle.normal_structure.proofs.types.Variables.{unit-all}
-use Rattle.normal_runs.specs.forms.Normalisable.{numbers_of, made_for}
-use Rattle.normal_structure.proofs.placed.Made.{among}
-use Rattle.normal_structure.proofs.placed.Whole.{each-of}
-use Rattle.normal_structure.proofs.numbers.Listed as list
-use Rattle.normal_structure.specs.asked.Pieces.{IsAmong, first_among, later_among}
-use Rattle.normalisable.specs.Laws.{IsLegalOriginal}
-use Rattle.normal_is_legal.proofs.asked.Bodies.{BodiesAsked, main-asked, bodies-asked}
-use Rattle.normal_structure.proofs.typed.Variables.{AllMetBut}
-use Rattle.normal_is_legal.specs.scopes.Plain.{plain_name}
-use Rattle.normal_is_legal.proofs.scopes.Fixed.{apart-variable}
-use Rattle.normal_is_legal.proofs.scopes.Outer.{AreLocal, IsVariableDecl, variable-stays, outer-marked}
-use Rattle.normal_is_legal.proofs.scopes.Begun.{IsOuterScope}
-use Rattle.normal_is_legal.proofs.scopes.Starts.{body-outer}
-use Rattle.normal_is_legal.proofs.scopes.Main.{g, old, last, first, tasked, made, last-placed, tasked-there, made-formed, decls-frame}
-use Rattle.normal_is_legal.proofs.typed_declarations.Joined.{program-rules, main-met}
-use Rattle.normal_is_legal.proofs.checks.Joined.{normal_meets_checks}
-use Rattle.normal_is_legal.proofs.variables_marked.Scopes.{main-scope, IsBodyPlace, place-tasked, place-body, BodiesScoped, bodies-scope, BodiesLocal, bodies-local}
-use Rattle.normal_is_legal.proofs.variables_marked.Bodies.{bodies-met}
+use Rattle.normal_laws.proofs.structure.types.Normal.{front-after}
+use Rattle.normal_laws.proofs.structure.types.Variables.{unit-all}
+use Rattle.normal_laws.specs.runs.forms.Normalisable.{numbers_of, made_for}
+use Rattle.normal_laws.proofs.structure.placed.Made.{among}
+use Rattle.normal_laws.proofs.structure.placed.Whole.{each-of}
+use Rattle.normal_laws.proofs.structure.numbers.Listed as list
+use Rattle.normal_laws.specs.structure.asked.Pieces.{IsAmong, first_among, later_among}
+use Rattle.normal_laws.specs.existence.Laws.{IsLegalOriginal}
+use Rattle.normal_laws.proofs.legality.asked.Bodies.{BodiesAsked, main-asked, bodies-asked}
+use Rattle.normal_laws.proofs.structure.typed.Variables.{AllMetBut}
+use Rattle.normal_laws.specs.legality.scopes.Plain.{plain_name}
+use Rattle.normal_laws.proofs.legality.scopes.Fixed.{apart-variable}
+use Rattle.normal_laws.proofs.legality.scopes.Outer.{AreLocal, IsVariableDecl, variable-stays, outer-marked}
+use Rattle.normal_laws.proofs.legality.scopes.Begun.{IsOuterScope}
+use Rattle.normal_laws.proofs.legality.scopes.Starts.{body-outer}
+use Rattle.normal_laws.proofs.legality.scopes.Main.{g, old, last, first, tasked, made, last-placed, tasked-there, made-formed, decls-frame}
+use Rattle.normal_laws.proofs.legality.typed_declarations.Joined.{program-rules, main-met}
+use Rattle.normal_laws.proofs.legality.checks.Joined.{normal_meets_checks}
+use Rattle.normal_laws.proofs.legality.variables_marked.Scopes.{main-scope, IsBodyPlace, place-tasked, place-body, BodiesScoped, bodies-scope, BodiesLocal, bodies-local}
+use Rattle.normal_laws.proofs.legality.variables_marked.Bodies.{bodies-met}
 use Rattle.replay_structure.specs.checkable.Prepared.{form_for}
 use Rattle.replay_structure.specs.typed.ScopeOf.{IsEntryOf}
 use Rattle.replay_is_legal.specs.names.form_units.Inner.{inner_name}

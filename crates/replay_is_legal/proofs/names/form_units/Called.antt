@@ -24,12 +24,12 @@ use Rattle.legal_programs.proofs.rewritten_types.Lookups.{find-all}
 use Rattle.normal_model.specs.Names.{task_name}
 use Rattle.normal_model.specs.Ranges.{kind_of_range}
 use Rattle.normal_model.specs.NormalTree.{tasks_beside}
-use Rattle.normal_runs.specs.forms.Normalisable.{setting_for}
-use Rattle.normal_structure.specs.asked.Pieces.{IsAmong}
-use Rattle.normalisable.specs.Laws.{IsLegalOriginal}
-use Rattle.normal_is_legal.proofs.asked.KnownKinds.{known-kinds}
-use Rattle.normalisable.proofs.seen_tasks.Scopes.{IsNoTask}
-use Rattle.normal_structure.specs.typed.ScopeOf as typed
+use Rattle.normal_laws.specs.runs.forms.Normalisable.{setting_for}
+use Rattle.normal_laws.specs.structure.asked.Pieces.{IsAmong}
+use Rattle.normal_laws.specs.existence.Laws.{IsLegalOriginal}
+use Rattle.normal_laws.proofs.legality.asked.KnownKinds.{known-kinds}
+use Rattle.normal_laws.proofs.existence.seen_tasks.Scopes.{IsNoTask}
+use Rattle.normal_laws.specs.structure.typed.ScopeOf as typed
 use Rattle.replay_structure.specs.checkable.Prepared.{form_for}
 use Rattle.replay_structure.specs.typed.ScopeOf.{IsCountedBy, as_itself, by_position, IsEntryOf}
 use Rattle.replay_is_legal.specs.names.form_units.Inner.{inner_name}
@@ -94,6 +94,7 @@ module _ (p : PProgram) (h : IsLegalOriginal p) where
       let kind : kind_of_range T its.written ≡ range.kind = range-kind its.written has.limits has.range ∙ its.kind in
       record {
         written = its.written;
+        flag = m.0;
         is = range-is p h k info name at ∙ its.is;
         counted = subst (λ j. IsCountedBy T inner c j range.kind) (sym kind) (counted c meant range.kind (subst (IsScalar T) its.kind has.scalar));
       }

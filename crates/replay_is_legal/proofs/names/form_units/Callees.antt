@@ -11,12 +11,12 @@ use Rattle.normal_model.specs.Walk.{after_body}
 use Rattle.normal_model.specs.RewrittenUnit.{RewrittenUnit}
 use Rattle.normal_model.proofs.VariablesLemmas.{Begins}
 use Rattle.legal_programs.specs.asked.Asked.{Asks, AskedBody}
-use Rattle.normal_structure.specs.asked.Pieces.{Pieces}
-use Rattle.normal_structure.proofs.asked.Walk.{body-keeps}
-use Rattle.normal_structure.specs.typed.ScopeOf.{IsScopeOf, IsPlaceOf}
-use Rattle.normal_structure.proofs.typed.Callees.{callee_entries, target-means}
-use Rattle.normal_structure.proofs.typed.Scopes.{accept-scope, loop-scope, accept-own, loop-own}
-use Rattle.normal_is_legal.proofs.asked.Bodies.{body_asks}
+use Rattle.normal_laws.specs.structure.asked.Pieces.{Pieces}
+use Rattle.normal_laws.proofs.structure.asked.Walk.{body-keeps}
+use Rattle.normal_laws.specs.structure.typed.ScopeOf.{IsScopeOf, IsPlaceOf}
+use Rattle.normal_laws.proofs.structure.typed.Callees.{callee_entries, target-means}
+use Rattle.normal_laws.proofs.structure.typed.Scopes.{accept-scope, loop-scope, accept-own, loop-own}
+use Rattle.normal_laws.proofs.legality.asked.Bodies.{body_asks}
 use Rattle.replay_structure.specs.typed.ScopeOf.{IsSingle}
 
 -- a callee is a single task, and an accept is of an own entry

@@ -18,29 +18,29 @@ use Rattle.legal_programs.proofs.rewritten_types.Lookups.{place-all}
 use Rattle.normal_model.specs.Names.{task_name, name_of_task}
 use Rattle.normal_model.specs.Ranges.{family_range}
 use Rattle.normal_model.specs.NormalTree.{tasks_beside, unit_for}
-use Rattle.normal_structure.specs.units.Laws.{TellUnits}
-use Rattle.normal_structure.proofs.units.Declared.{units_are_declared}
-use Rattle.normal_runs.specs.forms.Normalisable.{numbers_of, setting_for}
+use Rattle.normal_laws.specs.structure.units.Laws.{TellUnits}
+use Rattle.normal_laws.proofs.structure.units.Declared.{units_are_declared}
+use Rattle.normal_laws.specs.runs.forms.Normalisable.{numbers_of, setting_for}
 use Rattle.legal_programs.specs.types.Typed.{IsFirstTask}
 use Rattle.legal_programs.proofs.types.TaskTypes.{tasks-have-types}
 use Rattle.legal_programs.proofs.types.MainScopes.{StandsWhole}
-use Rattle.normal_structure.proofs.entries.Entries.{IsTaskOf}
-use Rattle.normalisable.proofs.seen_tasks.Parts.{IsUnit}
-use Rattle.normalisable.proofs.seen_tasks.Finding.{all-filtered}
-use Rattle.normalisable.proofs.seen_tasks.Tasks.{mapped-place, numbered-tasks-units, one-unit}
-use Rattle.normalisable.proofs.units.Fields.{legal_is_ordered, legal_names_tell}
-use Rattle.normalisable.proofs.body_forms.Joined as joined
-use Rattle.normalisable.proofs.body_forms.Fields as fields
-use Rattle.normalisable.specs.Laws.{IsLegalOriginal}
-use Rattle.normal_structure.specs.asked.Pieces.{IsAmong}
-use Rattle.normal_structure.proofs.placed.Made.{among}
-use Rattle.normal_structure.specs.typed.ScopeOf.{IsEntryOf}
-use Rattle.normal_is_legal.proofs.scopes.Seeing.{entries_in}
-use Rattle.normal_is_legal.proofs.scopes.Tasks.{has_name}
-use Rattle.normal_is_legal.proofs.scopes.Matched.{IsTaskMatched}
-use Rattle.normal_is_legal.proofs.scopes.Main.{last, matched, unit-of}
-use Rattle.normal_is_legal.proofs.scopes.Called.{entry-numbered}
-use Rattle.normal_is_legal.proofs.checks.Facts as facts
+use Rattle.normal_laws.proofs.structure.entries.Entries.{IsTaskOf}
+use Rattle.normal_laws.proofs.existence.seen_tasks.Parts.{IsUnit}
+use Rattle.normal_laws.proofs.existence.seen_tasks.Finding.{all-filtered}
+use Rattle.normal_laws.proofs.existence.seen_tasks.Tasks.{mapped-place, numbered-tasks-units, one-unit}
+use Rattle.normal_laws.proofs.existence.units.Fields.{legal_is_ordered, legal_names_tell}
+use Rattle.normal_laws.proofs.existence.body_forms.Joined as joined
+use Rattle.normal_laws.proofs.existence.body_forms.Fields as fields
+use Rattle.normal_laws.specs.existence.Laws.{IsLegalOriginal}
+use Rattle.normal_laws.specs.structure.asked.Pieces.{IsAmong}
+use Rattle.normal_laws.proofs.structure.placed.Made.{among}
+use Rattle.normal_laws.specs.structure.typed.ScopeOf.{IsEntryOf}
+use Rattle.normal_laws.proofs.legality.scopes.Seeing.{entries_in}
+use Rattle.normal_laws.proofs.legality.scopes.Tasks.{has_name}
+use Rattle.normal_laws.proofs.legality.scopes.Matched.{IsTaskMatched}
+use Rattle.normal_laws.proofs.legality.scopes.Main.{last, matched, unit-of}
+use Rattle.normal_laws.proofs.legality.scopes.Called.{entry-numbered}
+use Rattle.normal_laws.proofs.legality.checks.Facts as facts
 use Rattle.replay_structure.specs.checkable.Prepared.{form_for}
 use Rattle.replay_is_legal.proofs.placed.Families.{family-kept, unit-number}
 use Rattle.replay_is_legal.proofs.names.form_units.Seen.{entries_of_task}

@@ -26,15 +26,15 @@ use Rattle.syn_event.specs.RuleReservedName.{is_reserved}
 use Rattle.legal_programs.proofs.types.ApartNames.{FixedDiffers, AllFixedDiffer, marks-lack}
 use Rattle.normal_model.specs.RewrittenUnit.{RewrittenUnit}
 use Rattle.normal_model.specs.NormalStmts.{normal_body}
-use Rattle.normal_structure.specs.once.Apart.{fixed_names, IsFitIn}
-use Rattle.normal_structure.specs.once.Names.{body_names, IsFitDecl}
-use Rattle.normal_structure.proofs.once.Places.{body-is}
-use Rattle.normal_structure.proofs.once.Rewritten.{body-same}
-use Rattle.normal_structure.proofs.once.Fits.{inner_is_fit}
-use Rattle.normal_is_legal.proofs.declares_once.Ids.{IsGoodId}
-use Rattle.normal_is_legal.proofs.declares_once.Good.{good_names, program-good}
-use Rattle.normal_is_legal.proofs.declares_once.Inner.{IsInner, body-inner}
-use Rattle.normalisable.specs.Laws.{IsLegalOriginal}
+use Rattle.normal_laws.specs.structure.once.Apart.{fixed_names, IsFitIn}
+use Rattle.normal_laws.specs.structure.once.Names.{body_names, IsFitDecl}
+use Rattle.normal_laws.proofs.structure.once.Places.{body-is}
+use Rattle.normal_laws.proofs.structure.once.Rewritten.{body-same}
+use Rattle.normal_laws.proofs.structure.once.Fits.{inner_is_fit}
+use Rattle.normal_laws.proofs.legality.declares_once.Ids.{IsGoodId}
+use Rattle.normal_laws.proofs.legality.declares_once.Good.{good_names, program-good}
+use Rattle.normal_laws.proofs.legality.declares_once.Inner.{IsInner, body-inner}
+use Rattle.normal_laws.specs.existence.Laws.{IsLegalOriginal}
 use Rattle.replay_is_legal.specs.names.form_units.Inner.{inner_name}
 
 -- a name that is declared as no name of main, or as a variable of it, is an inner one

@@ -19,11 +19,11 @@ use Rattle.legal_programs.proofs.rewritten_types.Refused.{declared_once}
 use Rattle.normal_model.specs.Ranges.{kind_name}
 use Rattle.legal_programs.specs.alike_scopes.Alike.{SameNames}
 use Rattle.legal_programs.proofs.alike_scopes.Exprs.{mark-kind-same}
-use Rattle.normalisable.specs.Laws.{IsLegalOriginal}
-use Rattle.normal_is_legal.specs.scopes.Plain.{plain_name}
-use Rattle.normal_is_legal.proofs.scopes.Main.{last}
-use Rattle.normal_is_legal.proofs.scopes.Marked.{IsTypeOf, named-means}
-use Rattle.normal_is_legal.proofs.scopes.Fixed.{literal-plain}
+use Rattle.normal_laws.specs.existence.Laws.{IsLegalOriginal}
+use Rattle.normal_laws.specs.legality.scopes.Plain.{plain_name}
+use Rattle.normal_laws.proofs.legality.scopes.Main.{last}
+use Rattle.normal_laws.proofs.legality.scopes.Marked.{IsTypeOf, named-means}
+use Rattle.normal_laws.proofs.legality.scopes.Fixed.{literal-plain}
 use Rattle.replay_is_legal.specs.names.form_units.Inner.{inner_name}
 
 -- ---- tables that grow

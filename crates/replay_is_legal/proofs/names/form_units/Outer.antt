@@ -8,10 +8,10 @@ use Rattle.ada_static_rules.specs.StaticValue.{mark_named}
 use Rattle.syn_event.specs.RuleReservedName.{is_reserved}
 use Rattle.syn_event.specs.DeclaredTasks.{text_of}
 use Rattle.normal_model.proofs.VariablesLemmas.{Begins, begins-trans}
-use Rattle.normal_structure.proofs.numbers.Named.{Has, text-there, text-longer}
-use Rattle.normal_structure.proofs.numbers.TaskNames.{normal-begins}
-use Rattle.normal_runs.specs.forms.Normalisable.{numbers_of, made_for}
-use Rattle.normal_is_legal.specs.scopes.Plain.{plain_name}
+use Rattle.normal_laws.proofs.structure.numbers.Named.{Has, text-there, text-longer}
+use Rattle.normal_laws.proofs.structure.numbers.TaskNames.{normal-begins}
+use Rattle.normal_laws.specs.runs.forms.Normalisable.{numbers_of, made_for}
+use Rattle.normal_laws.specs.legality.scopes.Plain.{plain_name}
 use Rattle.replay_model.specs.Names.{kind_text, argument_text, index_text, control_text, idle_text, added_texts, replay_names, added_id}
 use Rattle.replay_structure.proofs.texts.Rooted.{replay-begins, replay-has}
 use Rattle.replay_structure.specs.typed.ScopeOf.{AreOuter}

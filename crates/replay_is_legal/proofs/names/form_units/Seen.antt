@@ -17,15 +17,15 @@ use Rattle.task_model.specs.Setting.{Setting}
 use Rattle.legal_programs.proofs.rewritten_types.Lookups.{find-all}
 use Rattle.normal_model.specs.Names.{task_name}
 use Rattle.normal_model.specs.NormalTree.{first_decls, tasks_beside, task_declared, main_variables, task_under}
-use Rattle.normal_structure.proofs.numbers.Listed as list
-use Rattle.normalisable.proofs.seen_tasks.Scopes.{IsNoTask, ObjectThing, no_task_object, one_object, array_of_objects, object-thing, task-type-seen}
-use Rattle.normal_structure.specs.asked.Pieces.{IsAmong, first_among, later_among}
+use Rattle.normal_laws.proofs.structure.numbers.Listed as list
+use Rattle.normal_laws.proofs.existence.seen_tasks.Scopes.{IsNoTask, ObjectThing, no_task_object, one_object, array_of_objects, object-thing, task-type-seen}
+use Rattle.normal_laws.specs.structure.asked.Pieces.{IsAmong, first_among, later_among}
 use Rattle.legal_programs.specs.rewritten_values.Values.{old_names}
-use Rattle.normalisable.specs.Laws.{IsLegalOriginal}
-use Rattle.normal_is_legal.proofs.scopes.Seeing.{entries_in}
-use Rattle.normal_is_legal.proofs.scopes.Tasks.{one-under, entries-same}
-use Rattle.normal_is_legal.proofs.scopes.Formed.{task-formed}
-use Rattle.normal_is_legal.proofs.scopes.Main.{g, old, last, first, varied, tasked, last-placed, unit-of, varied-formed, Formed}
+use Rattle.normal_laws.specs.existence.Laws.{IsLegalOriginal}
+use Rattle.normal_laws.proofs.legality.scopes.Seeing.{entries_in}
+use Rattle.normal_laws.proofs.legality.scopes.Tasks.{one-under, entries-same}
+use Rattle.normal_laws.proofs.legality.scopes.Formed.{task-formed}
+use Rattle.normal_laws.proofs.legality.scopes.Main.{g, old, last, first, varied, tasked, last-placed, unit-of, varied-formed, Formed}
 
 module _ (p : PProgram) (h : IsLegalOriginal p) where
   abbrev G : Setting

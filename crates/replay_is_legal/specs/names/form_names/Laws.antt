@@ -8,9 +8,9 @@ use Rattle.ada_tree.specs.PlainProgram.{PProgram}
 use Rattle.ada_tree.specs.Every.{EveryBody}
 use Rattle.syn_event.specs.DeclaredTasks.{decl_list}
 use Rattle.normal_model.specs.NormalTree.{first_decls, main_variables}
-use Rattle.normal_structure.specs.checked.Around.{own_rules}
-use Rattle.normal_runs.specs.forms.Normalisable.{setting_for, made_for}
-use Rattle.normalisable.specs.Laws.{IsLegalOriginal}
+use Rattle.normal_laws.specs.structure.checked.Around.{own_rules}
+use Rattle.normal_laws.specs.runs.forms.Normalisable.{setting_for, made_for}
+use Rattle.normal_laws.specs.existence.Laws.{IsLegalOriginal}
 use Rattle.replay_model.specs.ReplayTree.{is_added_object, is_task, is_body}
 use Rattle.replay_structure.specs.typed.ScopeOf.{AreOuter}
 use Rattle.replay_structure.specs.checkable.Prepared.{form_for}

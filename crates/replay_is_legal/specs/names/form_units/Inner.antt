@@ -4,7 +4,7 @@ use Rattle.ada_tree.specs.PlainProgram.{PProgram}
 use Rattle.ada_static_rules.specs.Refusals.{types_in}
 use Rattle.ada_static_rules.specs.RuleDuplicate.{is_predefined}
 use Rattle.ada_static_rules.specs.StaticValue.{mark_named}
-use Rattle.normal_is_legal.specs.scopes.Plain.{plain_name}
+use Rattle.normal_laws.specs.legality.scopes.Plain.{plain_name}
 
 -- The id is that of a plain name of the program that is neither a predefined name nor that of a type or subtype.
 abbrev pub inner_name : PProgram → ℕ → Bool

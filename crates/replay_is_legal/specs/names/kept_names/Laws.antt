@@ -4,17 +4,17 @@ use Rattle.std.specs.Prelude.{List}
 use Rattle.event_machine.specs.declared.Event.{Event}
 use Rattle.ada_tree.specs.PlainProgram.{PProgram}
 use Rattle.ada_static_rules.specs.Refusals.{types_in}
-use Rattle.normal_runs.specs.forms.Normalisable.{numbers_of}
-use Rattle.normal_structure.specs.placed.Example.{passing}
-use Rattle.normalisable.specs.Laws.{IsLegalOriginal}
-use Rattle.normal_is_legal.specs.Laws.{MeetsButOnce}
+use Rattle.normal_laws.specs.runs.forms.Normalisable.{numbers_of}
+use Rattle.normal_laws.specs.structure.placed.Example.{passing}
+use Rattle.normal_laws.specs.existence.Laws.{IsLegalOriginal}
+use Rattle.normal_laws.specs.legality.Laws.{MeetsButOnce}
 use Rattle.replay_model.specs.Promised.{IsReplayText}
 use Rattle.replay_structure.specs.checked.Example.{example_events}
 use Rattle.replay_is_legal.specs.known.Laws.{AreKnown}
 use Rattle.replay_is_legal.specs.Laws.{text_for, AreKept, IsHeld}
 
 -- The names in the declarations of the normal form of a legal program are kept in its replay texts, nothing is nested deeper than 100 there, and
--- events with known numbers tell of the ends of tasks beside main alone.
+-- known events are at most 200,000.
 abbrev pub LegalIsKept : Type 0
 LegalIsKept = (p : PProgram) (events : List Event) → IsLegalOriginal p → AreKnown p events → AreKept p events
 

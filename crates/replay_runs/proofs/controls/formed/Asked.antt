@@ -39,7 +39,7 @@ use Rattle.legal_programs.specs.sites.Met.{IsMet, IsCheckMet}
 use Rattle.legal_programs.proofs.types.MainScopes.{StandsWhole}
 use Rattle.legal_programs.proofs.types.BodyScopes.{expr-worth}
 use Rattle.legal_programs.proofs.types.StaticWorth.{small-literals}
-use Rattle.normal_structure.proofs.entries.Entries.{entry_in, IsTaskOf, HasEntry, entry-there}
+use Rattle.normal_laws.proofs.structure.entries.Entries.{entry_in, IsTaskOf, HasEntry, entry-there}
 use Rattle.legal_programs.proofs.rewritten_types.Lookups.{place-all}
 use Rattle.legal_programs.specs.rewritten_values.Values.{is_known}
 use Rattle.task_laws.specs.translation.Translations.{Programs}
@@ -49,28 +49,28 @@ use Rattle.legal_programs.specs.asked.Kinds.{no_asks, place_asks, type_asks, che
 use Rattle.normal_model.specs.Making.{moving, variable}
 use Rattle.normal_model.specs.Calls.{first_named}
 use Rattle.normal_model.specs.NormalTree.{tasks_beside}
-use Rattle.normal_runs.specs.floors.Suited.{IsCallee, IsCall, IsHead}
-use Rattle.normal_runs.specs.runs.Premises.{programs_of}
-use Rattle.normal_runs.specs.forms.Normalisable.{numbers_of, setting_for, normal_rewrite}
-use Rattle.normal_structure.proofs.placed.Depth.{few-alternatives}
-use Rattle.normal_structure.specs.typed.ScopeOf.{AreTasksOf}
-use Rattle.normalisable.specs.Laws.{IsLegalOriginal}
-use Rattle.normalisable.proofs.seen_tasks.Parts.{IsUnit}
-use Rattle.normalisable.proofs.seen_tasks.Bodies.{PlaceSeen, accept-seen, handling-seen, loop-seen}
-use Rattle.normalisable.proofs.seen_tasks.Tasks.{PartsKnown, IsNumberedTask, mapped-place, numbered-tasks-units, same-units}
-use Rattle.normalisable.proofs.statement_forms.Callees.{CalleeKnown, callee-known, callee-first, first-one, some-not}
-use Rattle.normalisable.proofs.statement_forms.CalleesAsked.{CalleesKnown, callee-asked}
-use Rattle.normalisable.proofs.statement_forms.Calls.{call-asked}
-use Rattle.normalisable.proofs.statement_forms.OwnEntries.{entry-said, own-entry}
-use Rattle.normalisable.proofs.statement_forms.AcceptsAsked.{unmoved-static, head-asked}
-use Rattle.normalisable.proofs.statement_forms.Text.{text_rules, IsKnownPlace, TextPremises}
-use Rattle.normalisable.proofs.walked_statements.Names.{expr-old, call-old}
-use Rattle.normalisable.proofs.body_forms.Joined as joined
-use Rattle.normalisable.proofs.body_forms.Fields as fields
-use Rattle.normal_is_legal.proofs.asked.Steps.{Steps, steps_asked}
-use Rattle.normal_is_legal.proofs.asked.Tasks as tasks
+use Rattle.normal_laws.specs.runs.floors.Suited.{IsCallee, IsCall, IsHead}
+use Rattle.normal_laws.specs.runs.runs.Premises.{programs_of}
+use Rattle.normal_laws.specs.runs.forms.Normalisable.{numbers_of, setting_for, normal_rewrite}
+use Rattle.normal_laws.proofs.structure.placed.Depth.{few-alternatives}
+use Rattle.normal_laws.specs.structure.typed.ScopeOf.{AreTasksOf}
+use Rattle.normal_laws.specs.existence.Laws.{IsLegalOriginal}
+use Rattle.normal_laws.proofs.existence.seen_tasks.Parts.{IsUnit}
+use Rattle.normal_laws.proofs.existence.seen_tasks.Bodies.{PlaceSeen, accept-seen, handling-seen, loop-seen}
+use Rattle.normal_laws.proofs.existence.seen_tasks.Tasks.{PartsKnown, IsNumberedTask, mapped-place, numbered-tasks-units, same-units}
+use Rattle.normal_laws.proofs.existence.statement_forms.Callees.{CalleeKnown, callee-known, callee-first, first-one, some-not}
+use Rattle.normal_laws.proofs.existence.statement_forms.CalleesAsked.{CalleesKnown, callee-asked}
+use Rattle.normal_laws.proofs.existence.statement_forms.Calls.{call-asked}
+use Rattle.normal_laws.proofs.existence.statement_forms.OwnEntries.{entry-said, own-entry}
+use Rattle.normal_laws.proofs.existence.statement_forms.AcceptsAsked.{unmoved-static, head-asked}
+use Rattle.normal_laws.proofs.existence.statement_forms.Text.{text_rules, IsKnownPlace, TextPremises}
+use Rattle.normal_laws.proofs.existence.walked_statements.Names.{expr-old, call-old}
+use Rattle.normal_laws.proofs.existence.body_forms.Joined as joined
+use Rattle.normal_laws.proofs.existence.body_forms.Fields as fields
+use Rattle.normal_laws.proofs.legality.asked.Steps.{Steps, steps_asked}
+use Rattle.normal_laws.proofs.legality.asked.Tasks as tasks
 use Rattle.replay_structure.specs.typed.ScopeOf.{has_accept}
-use Rattle.normal_structure.proofs.types.Names.{added_names_are_new}
+use Rattle.normal_laws.proofs.structure.types.Names.{added_names_are_new}
 use Rattle.replay_structure.proofs.scopes.Waits.{wait-accepts}
 
 module _ (p : PProgram) (h : IsLegalOriginal p) where

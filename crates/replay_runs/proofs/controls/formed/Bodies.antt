@@ -8,9 +8,9 @@ use Rattle.syn_event.specs.Numbering.{task_at}
 use Rattle.task_model.specs.Starting.{Unit as OneUnit, unit_of_info, unit_of}
 use Rattle.task_laws.specs.statements.Each.{InBody}
 use Rattle.task_laws.proofs.statements.Carried.{starts-so, stays-so}
-use Rattle.normal_runs.specs.forms.Normalisable.{numbers_of}
-use Rattle.normalisable.specs.Laws.{IsLegalOriginal}
-use Rattle.normalisable.proofs.Joined.{legal_is_normal}
+use Rattle.normal_laws.specs.runs.forms.Normalisable.{numbers_of}
+use Rattle.normal_laws.specs.existence.Laws.{IsLegalOriginal}
+use Rattle.normal_laws.proofs.existence.Joined.{legal_is_normal}
 use Rattle.replay_runs.specs.starts.Laws.{form_in}
 use Rattle.replay_runs.specs.starts.Formals.{form_setting}
 use Rattle.replay_runs.specs.controls.formed.Laws.{IsFormed, LegalBodiesAreFormed, LegalTasksAreFormed, FormedStays}

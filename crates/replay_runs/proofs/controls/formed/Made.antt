@@ -21,7 +21,7 @@ use Rattle.syn_event.specs.Numbering.{Numbering, task_named, entry_at, entry_nam
 use Rattle.task_model.specs.Setting.{Setting, entry_of, is_family, lists_in, lists_of}
 use Rattle.task_laws.specs.statements.Each.{Loops, InBody}
 use Rattle.legal_programs.proofs.types.StaticWorth.{named-alike}
-use Rattle.normal_structure.proofs.entries.Entries.{HasEntry}
+use Rattle.normal_laws.proofs.structure.entries.Entries.{HasEntry}
 use Rattle.legal_programs.specs.rewritten_types.Agreement.{Agrees}
 use Rattle.task_laws.specs.translation.Translations.{Programs}
 use Rattle.task_laws.specs.translation.OldNames.{OldExpr, old_integer, old_name, old_index, old_attribute, old_attribute_of, old_paren, old_unary, old_binary}
@@ -40,20 +40,20 @@ use Rattle.normal_model.specs.Waits.{head_left, not_held}
 use Rattle.normal_model.specs.Walk.{inside_alts}
 use Rattle.normal_model.specs.NormalStmts.{normal_rewriter, normal_body, unit_variables}
 use Rattle.normal_model.proofs.VariablesLemmas.{Begins}
-use Rattle.normal_structure.specs.types.Own.{own_name}
-use Rattle.normal_structure.proofs.types.Normal.{normal_agrees}
-use Rattle.normal_runs.specs.floors.Suited.{HasLists, no_lists, plain_lists, family_lists, rewritten_unit}
-use Rattle.normal_runs.specs.runs.Premises.{Rewrite, programs_of, unit_at, unit_before}
-use Rattle.normal_runs.specs.forms.Normalisable.{numbers_of, setting_for, made_for, variables_of, first_task, normal_rewrite}
+use Rattle.normal_laws.specs.structure.types.Own.{own_name}
+use Rattle.normal_laws.proofs.structure.types.Normal.{normal_agrees}
+use Rattle.normal_laws.specs.runs.floors.Suited.{HasLists, no_lists, plain_lists, family_lists, rewritten_unit}
+use Rattle.normal_laws.specs.runs.runs.Premises.{Rewrite, programs_of, unit_at, unit_before}
+use Rattle.normal_laws.specs.runs.forms.Normalisable.{numbers_of, setting_for, made_for, variables_of, first_task, normal_rewrite}
 use Rattle.replay_is_legal.proofs.fits.Counted.{tasks-within, entries-within}
-use Rattle.normal_structure.specs.asked.Pieces.{IsVariable, AreVariables, IsTarget, Pieces, IsGuard}
-use Rattle.normal_structure.proofs.asked.CallVariables.{family-there, actuals-there}
-use Rattle.normal_structure.proofs.asked.Walk.{body-keeps}
-use Rattle.normal_structure.specs.typed.ScopeOf.{AreTasksOf}
-use Rattle.normalisable.specs.Laws.{IsLegalOriginal}
-use Rattle.normalisable.proofs.Joined.{legal_is_normal}
-use Rattle.normalisable.proofs.units.Fields.{legal_is_ordered}
-use Rattle.normalisable.proofs.statements.Asked.{body-each}
+use Rattle.normal_laws.specs.structure.asked.Pieces.{IsVariable, AreVariables, IsTarget, Pieces, IsGuard}
+use Rattle.normal_laws.proofs.structure.asked.CallVariables.{family-there, actuals-there}
+use Rattle.normal_laws.proofs.structure.asked.Walk.{body-keeps}
+use Rattle.normal_laws.specs.structure.typed.ScopeOf.{AreTasksOf}
+use Rattle.normal_laws.specs.existence.Laws.{IsLegalOriginal}
+use Rattle.normal_laws.proofs.existence.Joined.{legal_is_normal}
+use Rattle.normal_laws.proofs.existence.units.Fields.{legal_is_ordered}
+use Rattle.normal_laws.proofs.existence.statements.Asked.{body-each}
 use Rattle.replay_structure.specs.typed.ScopeOf.{has_accept}
 use Rattle.replay_is_legal.proofs.names.form_units.Entries.{place-of, named-number}
 use Rattle.replay_runs.specs.starts.Laws.{form_in}

@@ -1,20 +1,18 @@
 -- The declarations of a normal form stand in order, whatever the program, and no task type is one of them.
-use Rattle.std.proofs.Common.{◌≡◌, Bool, true, false, List, [], ◌∷◌, ◌++◌, is_some, if◌then◌else◌, refl, ap, ◌∙◌, ◌==◌}
+use Rattle.std.proofs.Common.{◌≡◌, Bool, true, false, List, [], ◌∷◌, ◌++◌, if◌then◌else◌, refl, ap, ◌∙◌, ◌==◌}
 use Rattle.std.specs.Prelude.{map, flat_map}
 use Rattle.std.specs.List.{AllByRecursion}
 use Rattle.common_lemmas.proofs.Lists.{all_joined}
 use Rattle.ada_tree.specs.declared.naming.NameId.{NameId}
 use Rattle.ada_tree.specs.PlainDecl.{PTask, PDecl, DNumber, DObject, DEnumeration, DArray, DSubtype, DException, DIntIo, DPragma, DTask, DTaskBody, PDecls, no_decl, decl_then, decls_of}
-use Rattle.ada_static_rules.specs.Refusals.{types_in}
-use Rattle.syn_event.specs.declared.numbering.TaskInfo.{TaskInfo}
 use Rattle.syn_event.specs.DeclaredTasks.{decl_list}
 use Rattle.syn_event.proofs.DeclLists.{listed_back}
 use Rattle.task_model.specs.Setting.{Setting}
-use Rattle.normal_model.specs.NormalTree.{mark_of, unless_left, first_decls, task_under, declared_under, task_declared, tasks_beside, running, bodies_of, main_unit, main_variables}
-use Rattle.normal_structure.proofs.types.Variables.{unit-all}
-use Rattle.normal_structure.proofs.units.Tasks.{list-front}
-use Rattle.normal_runs.specs.forms.Normalisable.{setting_for}
-use Rattle.replay_runs.specs.controls.formed.NormalForm.{IsPlain, IsTask, IsTaskBody, AreInOrder, LegalNormalForms}
+use Rattle.normal_model.specs.NormalTree.{unless_left, first_decls, task_under, declared_under, task_declared, tasks_beside, running, bodies_of, main_unit, main_variables}
+use Rattle.normal_laws.proofs.structure.types.Variables.{unit-all}
+use Rattle.normal_laws.proofs.structure.units.Tasks.{list-front}
+use Rattle.normal_laws.specs.runs.forms.Normalisable.{setting_for}
+use Rattle.replay_runs.specs.controls.formed.NormalForm.{IsPlain, IsTask, IsTaskBody, LegalNormalForms}
 use Rattle.replay_runs.proofs.controls.formed.Bodies.{legal_bodies_are_formed}
 
 -- what holds of all that is made of each holds of all

@@ -30,8 +30,8 @@ use Rattle.task_model.specs.Starting.{Unit as OneUnit, unit_among, unit_of_info}
 use Rattle.legal_programs.specs.sites.Met.{IsMet, IsCheckMet}
 use Rattle.legal_programs.proofs.sites.Meeting.{all_met, all_check_met}
 use Rattle.legal_programs.proofs.types.MainScopes.{StandsWhole}
-use Rattle.normal_structure.proofs.entries.Lists.{found-place}
-use Rattle.normal_structure.proofs.entries.Entries.{IsTaskOf}
+use Rattle.normal_laws.proofs.structure.entries.Lists.{found-place}
+use Rattle.normal_laws.proofs.structure.entries.Entries.{IsTaskOf}
 use Rattle.legal_programs.proofs.rewritten_types.Lookups.{find-all, place-all}
 use Rattle.legal_programs.proofs.rewritten_types.Refused.{declared_once}
 use Rattle.legal_programs.specs.asked.Asked.{AskedBody}
@@ -41,15 +41,15 @@ use Rattle.legal_programs.proofs.asked.Typed.{typed_asked}
 use Rattle.legal_programs.proofs.asked.Checked.{checked_asked}
 use Rattle.legal_programs.proofs.asked.Together.{both_asked}
 use Rattle.task_laws.specs.translation.Translations.{Programs}
-use Rattle.normal_runs.specs.runs.Premises.{programs_of, unit_before}
-use Rattle.normal_runs.specs.forms.Normalisable.{numbers_of, setting_for, first_for, first_task, normal_rewrite}
-use Rattle.normalisable.specs.Laws.{IsLegalOriginal}
-use Rattle.normalisable.proofs.seen_tasks.Parts.{ObjectsApart, IsUnit, MainSeen}
-use Rattle.normalisable.proofs.seen_tasks.Bodies.{PlaceSeen, first-seen, decls-step, main-seen}
-use Rattle.normalisable.proofs.seen_tasks.Units.{objects-apart, BodyFound, nothing_found, body_found, bodies-found}
-use Rattle.normalisable.proofs.seen_tasks.Tasks.{mapped-place, numbered-tasks-units, one-unit}
-use Rattle.normalisable.proofs.statement_forms.Callees.{some-not}
-use Rattle.normalisable.proofs.statement_forms.Text.{text_rules, IsLocal, IsKnownPlace}
+use Rattle.normal_laws.specs.runs.runs.Premises.{programs_of, unit_before}
+use Rattle.normal_laws.specs.runs.forms.Normalisable.{numbers_of, setting_for, first_for, first_task, normal_rewrite}
+use Rattle.normal_laws.specs.existence.Laws.{IsLegalOriginal}
+use Rattle.normal_laws.proofs.existence.seen_tasks.Parts.{ObjectsApart, IsUnit, MainSeen}
+use Rattle.normal_laws.proofs.existence.seen_tasks.Bodies.{PlaceSeen, first-seen, decls-step, main-seen}
+use Rattle.normal_laws.proofs.existence.seen_tasks.Units.{objects-apart, BodyFound, nothing_found, body_found, bodies-found}
+use Rattle.normal_laws.proofs.existence.seen_tasks.Tasks.{mapped-place, numbered-tasks-units, one-unit}
+use Rattle.normal_laws.proofs.existence.statement_forms.Callees.{some-not}
+use Rattle.normal_laws.proofs.existence.statement_forms.Text.{text_rules, IsLocal, IsKnownPlace}
 use Rattle.replay_runs.proofs.controls.formed.Asked.{text, parts, AreHeadsKnown, head-known, unit_asks, unit-asked}
 
 -- what rules ask of declarations they ask of the body of a name, if there is one

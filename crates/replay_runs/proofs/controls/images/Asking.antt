@@ -21,7 +21,7 @@ use Rattle.replay_runs.specs.controls.Asking.{unit_of_task, Surroundings, with_n
 use Rattle.replay_runs.proofs.controls.Asking.{legal_asks_controller}
 use Rattle.replay_runs.specs.controls.translated.Laws.{form_and_text}
 use Rattle.replay_runs.specs.controls.images.Laws.{IsSynchronizing, plain_entry_call, conditional_call, timed_call, accept_statement, selective_wait, abort_of_one, ImagesAsk, LegalAskingOffers}
-use Rattle.replay_runs.specs.controls.Laws.{Offers}
+use Rattle.table_law.specs.States.{Offers}
 
 -- a row that begins with ASK and an if statement
 record Begins (u : RewrittenUnit) (r : PStmts) : Type 0 where

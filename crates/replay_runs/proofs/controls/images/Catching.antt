@@ -12,9 +12,9 @@ use Rattle.task_laws.specs.statements.Each.{Loops, HoldsOf, loops_of}
 use Rattle.task_laws.specs.translation.Translations.{Rewriting, Translation}
 use Rattle.task_laws.specs.translation.OldTexts.{only_names}
 use Rattle.task_laws.specs.translation.Controls.{task_in, Under, on_floor, in_block, in_handler, in_endless, in_while, in_count, inside, behind, Alike, alike, are_inside}
-use Rattle.normal_runs.specs.floors.Preludes.{reaches_here, reaches_by}
+use Rattle.normal_laws.specs.runs.floors.Preludes.{reaches_here, reaches_by}
 use Rattle.normal_model.specs.RewrittenUnit.{RewrittenUnit}
-use Rattle.normalisable.specs.statements.Laws.{NamesTasksSimply}
+use Rattle.normal_laws.specs.existence.statements.Laws.{NamesTasksSimply}
 use Rattle.replay_model.specs.Asking.{ask_only}
 use Rattle.replay_model.specs.ReplayStmts.{last_kind}
 use Rattle.replay_runs.specs.translation.Rows.{Replayed, replayed_none, replayed_then, replayed_rows}

@@ -11,8 +11,8 @@ use Rattle.task_laws.specs.translation.Translations.{Translation}
 use Rattle.task_laws.specs.translation.Controls.{task_in, AreAround, are_around}
 use Rattle.task_laws.specs.translation.Floors.{IsTranslation}
 use Rattle.task_laws.proofs.translation.Frames.{add-alike}
-use Rattle.normal_runs.specs.floors.Preludes.{Reaches}
-use Rattle.normalisable.specs.Laws.{IsLegalOriginal}
+use Rattle.normal_laws.specs.runs.floors.Preludes.{Reaches}
+use Rattle.normal_laws.specs.existence.Laws.{IsLegalOriginal}
 use Rattle.replay_model.specs.Asking.{ask}
 use Rattle.replay_model.specs.Names.{kind_text, argument_text, index_text, added_id}
 use Rattle.replay_runs.specs.starts.Laws.{form_in}

@@ -20,9 +20,9 @@ use Rattle.task_model.specs.Starting.{unit_among, unit_of_info, unit_of}
 use Rattle.task_laws.specs.statements.Each.{Loops, InBody}
 use Rattle.task_laws.specs.statements.variables.Held.{InAccept, InKind, InAlternatives, DeclaresInner}
 use Rattle.legal_programs.specs.asked.Asked.{AskedStmt, AskedAccept, AskedKind, AskedAlts}
-use Rattle.normal_runs.specs.forms.Normalisable.{numbers_of, setting_for, made_for}
-use Rattle.normalisable.specs.Laws.{IsLegalOriginal}
-use Rattle.normalisable.proofs.statements.Asked.{body-each}
+use Rattle.normal_laws.specs.runs.forms.Normalisable.{numbers_of, setting_for, made_for}
+use Rattle.normal_laws.specs.existence.Laws.{IsLegalOriginal}
+use Rattle.normal_laws.proofs.existence.statements.Asked.{body-each}
 use Rattle.normal_model.specs.NormalTree.{first_decls, main_variables}
 use Rattle.replay_model.specs.ReplayTree.{is_body, script_of}
 use Rattle.replay_structure.specs.scopes.Form.{BodyForms, IsForm, tasked, last}
@@ -98,7 +98,7 @@ module _ (p : PProgram) (legal : IsLegalOriginal p) where
   vars = main_variables (setting_for p)
 
   form : IsForm (form_in p) (old_name (made_for p)) (inner_name p) (script_of (numbers_of p) []) before vars
-  form = legal_normal_is_form p [] legal (All-from_recursion (λ e. is_known (numbers_of p) e ≡ true) [] tt)
+  form = legal_normal_is_form p [] legal (record { each = All-from_recursion (λ e. is_known (numbers_of p) e ≡ true) [] tt; few = omega arith })
 
   of-info : (info : Option TaskInfo) → InBody (DeclaresInner (inner_name p)) [] (unit_of_info (made_for p) info).body
   of-info None = (tt, tt)

@@ -22,14 +22,14 @@ use Rattle.task_laws.proofs.statements.variables.Carried.{variables_start, varia
 use Rattle.legal_programs.proofs.rewritten_types.Lookups.{find-all}
 use Rattle.legal_programs.proofs.types.MainScopes.{StandsWhole, last-stands}
 use Rattle.normal_model.specs.Names.{variable_name}
-use Rattle.normal_runs.specs.floors.Preludes.{cell}
-use Rattle.normal_runs.specs.forms.Normalisable.{setting_for, made_for}
-use Rattle.normalisable.specs.Laws.{IsLegalOriginal}
-use Rattle.normalisable.proofs.Joined.{legal_is_normal}
-use Rattle.normal_is_legal.proofs.Legal.{normal_meets_types}
-use Rattle.normal_is_legal.proofs.checks.Facts as facts
-use Rattle.normal_is_legal.specs.scopes.Plain.{plain_name}
-use Rattle.normal_is_legal.proofs.scopes.Names.{variable-new}
+use Rattle.normal_laws.specs.runs.floors.Preludes.{cell}
+use Rattle.normal_laws.specs.runs.forms.Normalisable.{setting_for, made_for}
+use Rattle.normal_laws.specs.existence.Laws.{IsLegalOriginal}
+use Rattle.normal_laws.proofs.existence.Joined.{legal_is_normal}
+use Rattle.normal_laws.proofs.legality.Legal.{normal_meets_types}
+use Rattle.normal_laws.proofs.legality.checks.Facts as facts
+use Rattle.normal_laws.specs.legality.scopes.Plain.{plain_name}
+use Rattle.normal_laws.proofs.legality.scopes.Names.{variable-new}
 use Rattle.replay_is_legal.specs.names.form_units.Inner.{inner_name}
 use Rattle.replay_runs.specs.starts.Laws.{form_in, start_before}
 use Rattle.replay_runs.specs.starts.Formals.{form_setting}

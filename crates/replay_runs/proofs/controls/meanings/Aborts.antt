@@ -27,8 +27,8 @@ use Rattle.task_laws.specs.translation.Controls.{task_in, Under}
 use Rattle.normal_model.specs.RewrittenUnit.{RewrittenUnit}
 use Rattle.normal_model.specs.Making.{one}
 use Rattle.normal_model.specs.Walk.{image_of}
-use Rattle.normal_runs.specs.floors.Preludes.{Reaches, reaches_here}
-use Rattle.normalisable.specs.Laws.{IsLegalOriginal}
+use Rattle.normal_laws.specs.runs.floors.Preludes.{Reaches, reaches_here}
+use Rattle.normal_laws.specs.existence.Laws.{IsLegalOriginal}
 use Rattle.run_laws.specs.replaying.Permits.{Permit, ToMeet, ToFinish, ToElse, ToDelay, ToCallElse, ToExpire, ToFail, ToEnd, ToAbort, ToClose, wants}
 use Rattle.run_laws.specs.replaying.Copies.{Spots}
 use Rattle.replay_runs.specs.script.Spelling.{kind, arg, index}
@@ -38,7 +38,7 @@ use Rattle.replay_structure.specs.spots.Places.{text_spots}
 use Rattle.replay_runs.specs.starts.Laws.{form_in, text_in}
 use Rattle.replay_runs.specs.starts.Formals.{form_setting, text_setting}
 use Rattle.replay_runs.specs.translation.Rows.{Replayed}
-use Rattle.replay_runs.specs.controls.Laws.{Offers}
+use Rattle.table_law.specs.States.{Offers}
 use Rattle.replay_runs.specs.controls.Asking.{unit_of_task, permit_stored}
 use Rattle.replay_runs.specs.controls.permits.Laws.{EvaluatesTo, takes_this, takes_later, takes_other}
 use Rattle.replay_runs.specs.controls.formed.Laws.{NamesTask}

@@ -20,9 +20,9 @@ use Rattle.task_laws.specs.translation.OldTexts.{only_names, old_accept}
 use Rattle.task_laws.specs.translation.Controls.{Under}
 use Rattle.task_laws.proofs.translation.Frames.{sees-alike}
 use Rattle.normal_model.specs.Names.{variable_name}
-use Rattle.normal_runs.specs.forms.Normalisable.{numbers_of, setting_for, variables_of}
-use Rattle.normal_is_legal.proofs.checks.Facts as facts
-use Rattle.normalisable.specs.Laws.{IsLegalOriginal}
+use Rattle.normal_laws.specs.runs.forms.Normalisable.{numbers_of, setting_for, variables_of}
+use Rattle.normal_laws.proofs.legality.checks.Facts as facts
+use Rattle.normal_laws.specs.existence.Laws.{IsLegalOriginal}
 use Rattle.run_laws.specs.replaying.Copies.{Spots}
 use Rattle.replay_model.specs.ReplayTree.{last_task}
 use Rattle.replay_structure.specs.spots.Laws.{IsInOrder}

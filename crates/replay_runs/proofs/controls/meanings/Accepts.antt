@@ -29,8 +29,8 @@ use Rattle.task_laws.specs.translation.Controls.{Under}
 use Rattle.normal_model.specs.RewrittenUnit.{RewrittenUnit}
 use Rattle.normal_model.specs.Making.{one}
 use Rattle.normal_model.specs.Walk.{image_of, inside_maybe}
-use Rattle.normal_runs.proofs.callees.Choosing.{reaches-behind}
-use Rattle.normalisable.specs.Laws.{IsLegalOriginal}
+use Rattle.normal_laws.proofs.runs.callees.Choosing.{reaches-behind}
+use Rattle.normal_laws.specs.existence.Laws.{IsLegalOriginal}
 use Rattle.run_laws.specs.replaying.Permits.{Permit, ToMeet, ToFinish, ToElse, ToDelay, ToCallElse, ToExpire, ToFail, ToEnd, ToAbort, ToClose, wants}
 use Rattle.run_laws.specs.replaying.Copies.{Spots, held_offer}
 use Rattle.replay_runs.specs.script.Spelling.{kind, arg, index}
@@ -41,7 +41,7 @@ use Rattle.replay_structure.specs.spots.Places.{text_spots}
 use Rattle.replay_runs.specs.starts.Laws.{form_in, text_in}
 use Rattle.replay_runs.specs.starts.Formals.{text_setting}
 use Rattle.replay_runs.specs.translation.Rows.{Replayed, replayed_rows}
-use Rattle.replay_runs.specs.controls.Laws.{Offers}
+use Rattle.table_law.specs.States.{Offers}
 use Rattle.replay_runs.specs.controls.Asking.{unit_of_task, permit_stored}
 use Rattle.replay_runs.specs.controls.Imitating.{permit_values}
 use Rattle.replay_runs.specs.controls.permits.Laws.{FitsInteger, EvaluatesTo, IndexIs, TakesBranch, takes_this, takes_later, takes_other}

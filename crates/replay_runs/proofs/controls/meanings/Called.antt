@@ -31,8 +31,8 @@ use Rattle.task_laws.specs.translation.Floors.{IsTranslation}
 use Rattle.task_laws.proofs.translation.Results.{Both, both_ok, both_err, both_then}
 use Rattle.task_laws.proofs.translation.Evaluating.{KnownValue, known_value, value-alike}
 use Rattle.task_laws.proofs.translation.Frames.{sees-alike, set-alike}
-use Rattle.normal_runs.specs.floors.Meetings.{AreValues, no_value, value_then}
-use Rattle.normalisable.specs.Laws.{IsLegalOriginal}
+use Rattle.normal_laws.specs.runs.floors.Meetings.{AreValues, no_value, value_then}
+use Rattle.normal_laws.specs.existence.Laws.{IsLegalOriginal}
 use Rattle.run_laws.specs.replaying.Copies.{Spots}
 use Rattle.replay_model.specs.Calling.{double_call}
 use Rattle.replay_structure.specs.spots.Places.{text_spots}

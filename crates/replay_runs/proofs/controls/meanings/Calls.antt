@@ -40,10 +40,10 @@ use Rattle.normal_model.specs.RewrittenUnit.{RewrittenUnit}
 use Rattle.normal_model.specs.Making.{one}
 use Rattle.normal_model.specs.Calls.{entry_called}
 use Rattle.normal_model.specs.Walk.{rewritten, after_stmts}
-use Rattle.normal_runs.specs.floors.Meetings.{AreValues}
-use Rattle.normal_runs.specs.floors.Preludes.{reaches_here, reaches_by}
-use Rattle.normal_runs.proofs.callees.Choosing.{reaches-behind}
-use Rattle.normalisable.specs.Laws.{IsLegalOriginal}
+use Rattle.normal_laws.specs.runs.floors.Meetings.{AreValues}
+use Rattle.normal_laws.specs.runs.floors.Preludes.{reaches_here, reaches_by}
+use Rattle.normal_laws.proofs.runs.callees.Choosing.{reaches-behind}
+use Rattle.normal_laws.specs.existence.Laws.{IsLegalOriginal}
 use Rattle.run_laws.specs.replaying.Permits.{Permit, ToMeet, ToFinish, ToElse, ToDelay, ToCallElse, ToExpire, ToFail, ToEnd, ToAbort, ToClose, wants}
 use Rattle.run_laws.specs.replaying.Copies.{Spots, shows, held_offer}
 use Rattle.replay_runs.specs.script.Spelling.{kind, arg, index}
@@ -56,7 +56,7 @@ use Rattle.replay_runs.specs.starts.Laws.{form_in, text_in}
 use Rattle.replay_runs.specs.starts.Formals.{form_setting, text_setting}
 use Rattle.replay_runs.specs.translation.Rows.{Replayed, replayed_none, replayed_rows}
 use Rattle.replay_runs.proofs.translation.Rows.{rows, handler-rows, are-images}
-use Rattle.replay_runs.specs.controls.Laws.{Offers}
+use Rattle.table_law.specs.States.{Offers}
 use Rattle.replay_runs.specs.controls.Asking.{unit_of_task, permit_stored}
 use Rattle.replay_runs.specs.controls.Imitating.{permit_values}
 use Rattle.replay_runs.specs.controls.formed.Laws.{IsCallFormed}

@@ -34,12 +34,12 @@ use Rattle.task_laws.proofs.translation.Frames.{add-alike}
 use Rattle.task_laws.proofs.translation.Mapping.{under-map}
 use Rattle.normal_model.specs.RewrittenUnit.{RewrittenUnit}
 use Rattle.normal_model.specs.Making.{one}
-use Rattle.normal_runs.specs.floors.Preludes.{Reaches, reaches_here, reaches_by}
-use Rattle.normal_runs.specs.floors.NormalFloors.{AreOpen, none_open, open_then}
-use Rattle.normal_runs.specs.floors.Meetings.{AreValues, no_value, value_then}
-use Rattle.normal_runs.proofs.floors.Extending.{Fronts, fronts, own-add}
-use Rattle.normal_runs.proofs.callees.Choosing.{reaches-behind}
-use Rattle.normalisable.specs.Laws.{IsLegalOriginal}
+use Rattle.normal_laws.specs.runs.floors.Preludes.{Reaches, reaches_here, reaches_by}
+use Rattle.normal_laws.specs.runs.floors.NormalFloors.{AreOpen, none_open, open_then}
+use Rattle.normal_laws.specs.runs.floors.Meetings.{AreValues, no_value, value_then}
+use Rattle.normal_laws.proofs.runs.floors.Extending.{Fronts, fronts, own-add}
+use Rattle.normal_laws.proofs.runs.callees.Choosing.{reaches-behind}
+use Rattle.normal_laws.specs.existence.Laws.{IsLegalOriginal}
 use Rattle.run_laws.specs.replaying.Permits.{Permit, ToMeet, ToFinish, ToElse, ToDelay, ToCallElse, ToExpire, ToFail, ToEnd, ToAbort, ToClose, wants}
 use Rattle.run_laws.specs.replaying.Copies.{Spots, shows, held_offer}
 use Rattle.replay_runs.specs.script.Spelling.{kind, arg, index}
@@ -56,7 +56,7 @@ use Rattle.replay_runs.specs.translation.Floors.{HasPermit, OpenAccept, frames_o
 use Rattle.replay_runs.proofs.translation.Rows.{are-images}
 use Rattle.replay_runs.proofs.translation.Floors.{levels}
 use Rattle.replay_runs.proofs.translation.Carried.{replay_keeps_permit}
-use Rattle.replay_runs.specs.controls.Laws.{Offers}
+use Rattle.table_law.specs.States.{Offers}
 use Rattle.replay_runs.specs.controls.Asking.{unit_of_task, Surroundings, with_next, having, permit_stored}
 use Rattle.replay_runs.specs.controls.Imitating.{permit_values}
 use Rattle.replay_runs.specs.controls.permits.Laws.{FitsInteger, EvaluatesTo, takes_this, takes_later, takes_other}
@@ -65,7 +65,7 @@ use Rattle.replay_runs.specs.controls.meanings.Pairs.{IsOfForm, IsBased}
 use Rattle.replay_runs.specs.controls.meanings.Permits.{ComesToSay, ActsBy, IsHolding, ComesToHold}
 use Rattle.replay_runs.specs.controls.meanings.Laws.{stands_behind, HoldsEachPermit, LegalEndsHold}
 use Rattle.replay_runs.proofs.controls.Asking.{legal_asks_controller}
-use Rattle.replay_runs.proofs.controls.Imitating.{small-kind}
+use Rattle.replay_runs.proofs.controls.Controllers.{small-kind}
 use Rattle.replay_runs.proofs.controls.permits.Tests.{tests_of_permits}
 use Rattle.replay_runs.proofs.controls.permits.Branches.{permits_decide}
 use Rattle.replay_runs.proofs.controls.translated.Tables.{legal_types_agree}

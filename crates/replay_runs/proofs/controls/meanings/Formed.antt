@@ -8,9 +8,9 @@ use Rattle.task_model.specs.Laws.{IsProper}
 use Rattle.task_model.proofs.Lawful.{lawful}
 use Rattle.task_model.proofs.Following as following
 use Rattle.task_laws.proofs.invariants.Beginning as beginning
-use Rattle.normal_structure.specs.placed.Example.{passing}
-use Rattle.normalisable.specs.Laws.{IsLegalOriginal}
-use Rattle.normalisable.proofs.Joined.{legal_is_normal, legal_is_calm}
+use Rattle.normal_laws.specs.structure.placed.Example.{passing}
+use Rattle.normal_laws.specs.existence.Laws.{IsLegalOriginal}
+use Rattle.normal_laws.proofs.existence.Joined.{legal_is_normal, legal_is_calm}
 use Rattle.replay_runs.proofs.found.Legal as facts
 use Rattle.run_laws.specs.replaying.Copies.{Spots, IsNumbered, HasOwners}
 use Rattle.run_laws.proofs.replaying.Twins.{numbering, numbering_numbers}

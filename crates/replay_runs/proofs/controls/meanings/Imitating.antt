@@ -11,15 +11,18 @@ use Rattle.task_model.specs.Stands.{can_step, steps_at, stepped, offer_of}
 use Rattle.task_model.specs.Rendezvous.{accepted, finished, resumed, call_failed, took_else, took_delay, past_name}
 use Rattle.task_model.specs.TaskOps.{task_ops}
 use Rattle.task_laws.specs.translation.Controls.{Alike, alike}
-use Rattle.normal_runs.specs.floors.Preludes as prelude
-use Rattle.normalisable.specs.Laws.{IsLegalOriginal}
+use Rattle.normal_laws.specs.runs.floors.Preludes as prelude
+use Rattle.normal_laws.specs.existence.Laws.{IsLegalOriginal}
 use Rattle.run_laws.specs.replaying.Permits.{Permit, Op, Go, Done, Join, Hold}
 use Rattle.run_laws.specs.replaying.Copies.{Spots, Copy, Based, Holding, Saying, Controlling, Handing, Idling, written, ops_offer, copy_steps, copy_stepped, copy_offer, copy_callers}
 use Rattle.run_laws.specs.replaying.Rewritings.{Setting, IsFine, ReachesIn, Reaches, Imitates}
 use Rattle.replay_structure.specs.spots.Places.{text_spots}
 use Rattle.replay_runs.specs.starts.Laws.{form_in}
-use Rattle.replay_runs.specs.controls.Laws.{LeadsTo, Offers, control_number}
-use Rattle.replay_runs.specs.controls.Imitating.{LeadsInto, IsWithin, ImitatesController}
+use Rattle.table_law.specs.States.{LeadsTo, Offers}
+use Rattle.table_law.proofs.Turning.{at-seam}
+use Rattle.replay_runs.specs.script.Spelling.{spelled}
+use Rattle.replay_runs.specs.controls.Laws.{control_number, controller}
+use Rattle.replay_runs.specs.controls.Imitating.{made_of, LeadsInto, IsWithin, ImitatesController}
 use Rattle.replay_runs.proofs.controls.Imitating.{legal_imitates_controller}
 use Rattle.replay_runs.proofs.controls.Offers.{idle_waits}
 use Rattle.replay_runs.proofs.controls.images.Asking.{legal_asking_offers}
@@ -137,7 +140,8 @@ module _ (far : Spots) (p : PProgram) (events : List Event) (inputs : List (List
   permitted : (κ j : Task) (t : ℕ) (σ : Task) (permit : Permit) (ops : List Op) → IsBased p events t σ κ → can_step σ ≡ false → IsWithin p events input (Go t permit) ops j → ComesTo (resumed j κ) (Holding t permit σ)
   permitted κ j t σ permit ops b rests w =
       let g = controls.grants t permit ops j w in
-      holds-there t permit σ (resumed j κ) (hold far p events h t σ κ b rests permit j w.can.0.1 w.can.0.2 g.0 g.1)
+      let can = at-seam (controller p events input) w.made (spelled (Go t permit)) (made_of ops) w.can in
+      holds-there t permit σ (resumed j κ) (hold far p events h t σ κ b rests permit j can.2 can.3 g.0 g.1)
 
   pub imitates : Imitates x task_ops out Meets
   imitates = record {

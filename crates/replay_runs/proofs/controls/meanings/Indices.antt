@@ -28,7 +28,7 @@ use Rattle.task_laws.specs.translation.Fixed.{FixedExpr, fixed_integer, fixed_na
 use Rattle.task_laws.specs.translation.Controls.{task_in}
 use Rattle.task_laws.proofs.translation.Evaluating.{worth-same}
 use Rattle.task_laws.proofs.translation.Fixed.{fixed-before, fixed-worth}
-use Rattle.normalisable.specs.Laws.{IsLegalOriginal}
+use Rattle.normal_laws.specs.existence.Laws.{IsLegalOriginal}
 use Rattle.replay_runs.specs.controls.permits.Laws.{IndexIs, no_index, index_is}
 use Rattle.replay_runs.specs.controls.translated.Laws.{form_and_text}
 use Rattle.replay_runs.proofs.controls.translated.Tables.{legal_types_agree}

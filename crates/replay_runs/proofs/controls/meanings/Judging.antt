@@ -36,8 +36,8 @@ use Rattle.task_laws.specs.translation.Controls.{task_in}
 use Rattle.task_laws.proofs.translation.Evaluating.{worth-same}
 use Rattle.normal_model.specs.RewrittenUnit.{RewrittenUnit}
 use Rattle.normal_model.specs.Walk.{rewritten, inside_maybe, inside_kind, inside_alts}
-use Rattle.normal_runs.proofs.waits.Choices.{truth-of}
-use Rattle.normalisable.specs.Laws.{IsLegalOriginal}
+use Rattle.normal_laws.proofs.runs.waits.Choices.{truth-of}
+use Rattle.normal_laws.specs.existence.Laws.{IsLegalOriginal}
 use Rattle.run_laws.specs.replaying.Copies.{Spots}
 use Rattle.replay_model.specs.Asking.{both}
 use Rattle.replay_model.specs.Waiting.{never_so, and_guard, is_shut, pauses_of, and_later}

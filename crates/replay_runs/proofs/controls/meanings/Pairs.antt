@@ -22,11 +22,11 @@ use Rattle.task_laws.proofs.statements.Carried.{stays-so, exits_stay}
 use Rattle.task_laws.specs.translation.Images.{IsLocal, local_null, local_assign, local_delay, local_exit, local_raise, local_no_abort, local_put, local_put_line, local_new_line, local_get, local_if, local_case, local_block, local_loop}
 use Rattle.task_laws.specs.translation.OldTexts.{only_names}
 use Rattle.task_laws.specs.translation.Controls.{frame, task_in, Under, on_floor, in_block, in_handler, in_endless, in_while, in_count, inside, behind, Alike, alike, IsAtLocal, at_statement, at_turn, are_inside, StepAlike}
-use Rattle.normal_runs.specs.floors.Preludes.{Reaches, reaches_here, reaches_by}
+use Rattle.normal_laws.specs.runs.floors.Preludes.{Reaches, reaches_here, reaches_by}
 use Rattle.normal_model.specs.RewrittenUnit.{RewrittenUnit}
-use Rattle.normalisable.specs.Laws.{IsLegalOriginal}
-use Rattle.normalisable.specs.statements.Laws.{NamesTasksSimply}
-use Rattle.normalisable.proofs.statements.Normal.{names_stay_simple}
+use Rattle.normal_laws.specs.existence.Laws.{IsLegalOriginal}
+use Rattle.normal_laws.specs.existence.statements.Laws.{NamesTasksSimply}
+use Rattle.normal_laws.proofs.existence.statements.Normal.{names_stay_simple}
 use Rattle.replay_runs.specs.translation.Rows.{replayed_rows}
 use Rattle.replay_runs.specs.translation.Floors.{ReplayFloor, plain_body, handled_body, taken_handler, accept_body, AtAsking, unit_over, unit_left, empty_over, body_over, body_left, below_at}
 use Rattle.replay_runs.specs.translation.Rows.{Replayed, replayed_none, replayed_then}

@@ -29,9 +29,9 @@ use Rattle.task_laws.proofs.translation.Frames.{add-alike}
 use Rattle.task_laws.proofs.translation.Locals.{raise-there, go-there}
 use Rattle.normal_model.specs.RewrittenUnit.{RewrittenUnit}
 use Rattle.normal_model.specs.Making.{one}
-use Rattle.normal_runs.specs.floors.Preludes.{Reaches, reaches_here, reaches_by}
-use Rattle.normal_runs.proofs.callees.Choosing.{reaches-behind}
-use Rattle.normalisable.specs.Laws.{IsLegalOriginal}
+use Rattle.normal_laws.specs.runs.floors.Preludes.{Reaches, reaches_here, reaches_by}
+use Rattle.normal_laws.proofs.runs.callees.Choosing.{reaches-behind}
+use Rattle.normal_laws.specs.existence.Laws.{IsLegalOriginal}
 use Rattle.run_laws.specs.replaying.Permits.{Permit, ToMeet, ToFinish, ToElse, ToDelay, ToCallElse, ToExpire, ToFail, ToEnd, ToAbort, ToClose, wants}
 use Rattle.run_laws.specs.replaying.Copies.{Spots, shows}
 use Rattle.replay_runs.specs.script.Spelling.{kind, arg, index}
@@ -46,7 +46,7 @@ use Rattle.replay_runs.specs.starts.Formals.{form_setting, text_setting}
 use Rattle.replay_runs.specs.translation.Rows.{Replayed}
 use Rattle.replay_runs.proofs.translation.Carried.{replay_translates, replay_keeps_permit}
 use Rattle.task_laws.specs.translation.OldTexts.{only_names}
-use Rattle.replay_runs.specs.controls.Laws.{Offers}
+use Rattle.table_law.specs.States.{Offers}
 use Rattle.replay_runs.specs.controls.Asking.{unit_of_task, Surroundings, with_next, permit_stored, HoldsPermit}
 use Rattle.replay_runs.specs.controls.Imitating.{permit_values}
 use Rattle.replay_runs.specs.controls.permits.Laws.{FitsInteger, TakesBranch}
@@ -55,7 +55,7 @@ use Rattle.replay_runs.specs.controls.images.Laws.{StandsBeforeAsk}
 use Rattle.replay_runs.specs.controls.meanings.Pairs.{IsOfForm, Comes}
 use Rattle.replay_runs.specs.controls.meanings.Permits.{IsSaying, ComesToSay, ActsBy, IsHolding, ComesToHold}
 use Rattle.replay_runs.proofs.controls.Asking.{legal_asks_controller}
-use Rattle.replay_runs.proofs.controls.Imitating.{small-kind}
+use Rattle.replay_runs.proofs.controls.Controllers.{small-kind}
 use Rattle.replay_runs.proofs.controls.Joining.{found-before}
 use Rattle.replay_runs.proofs.controls.translated.Tables.{legal_types_agree}
 use Rattle.replay_runs.proofs.controls.translated.Objects.{permit_is_added}

@@ -10,7 +10,7 @@ use Rattle.task_model.specs.Stands.{can_step}
 use Rattle.task_laws.specs.statements.Each.{loops_of}
 use Rattle.task_laws.specs.translation.OldTexts.{only_names}
 use Rattle.task_laws.specs.translation.Controls.{task_in, Under, Follows, inside, behind, Alike, alike}
-use Rattle.normalisable.specs.Laws.{IsLegalOriginal}
+use Rattle.normal_laws.specs.existence.Laws.{IsLegalOriginal}
 use Rattle.run_laws.specs.replaying.Copies.{Spots}
 use Rattle.replay_runs.specs.starts.Formals.{form_setting, text_setting}
 use Rattle.replay_runs.specs.translation.Rows.{Replayed, replayed_none, replayed_then}

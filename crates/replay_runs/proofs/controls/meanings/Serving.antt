@@ -30,10 +30,10 @@ use Rattle.task_laws.specs.translation.Controls.{frame, task_in, Under, on_floor
 use Rattle.task_laws.proofs.translation.Evaluating.{single-known}
 use Rattle.task_laws.proofs.translation.Locals.{of_settle}
 use Rattle.normal_model.specs.RewrittenUnit.{RewrittenUnit}
-use Rattle.normal_runs.specs.floors.Preludes.{Reaches, reaches_here, reaches_by}
-use Rattle.normal_runs.specs.floors.NormalFloors.{AreOpen, none_open, open_then}
-use Rattle.normal_runs.specs.floors.Meetings.{AreNamed, none_named, named_then, AreValues, no_value, value_then}
-use Rattle.normalisable.specs.Laws.{IsLegalOriginal}
+use Rattle.normal_laws.specs.runs.floors.Preludes.{Reaches, reaches_here, reaches_by}
+use Rattle.normal_laws.specs.runs.floors.NormalFloors.{AreOpen, none_open, open_then}
+use Rattle.normal_laws.specs.runs.floors.Meetings.{AreNamed, none_named, named_then, AreValues, no_value, value_then}
+use Rattle.normal_laws.specs.existence.Laws.{IsLegalOriginal}
 use Rattle.run_laws.specs.replaying.Copies.{Spots}
 use Rattle.replay_model.specs.Asking.{done}
 use Rattle.replay_model.specs.Serving.{finish, body_kept, serve}
@@ -44,7 +44,7 @@ use Rattle.replay_runs.specs.translation.Rows.{Replayed, replayed_rows}
 use Rattle.replay_runs.specs.translation.Floors.{ends_accept, accept_frames, OpenAccept, accept_body, empty_over, over_floors, below_at}
 use Rattle.replay_runs.proofs.translation.Rows.{are-images}
 use Rattle.replay_runs.proofs.translation.Floors.{floor-row, up}
-use Rattle.replay_runs.specs.controls.Laws.{Offers}
+use Rattle.table_law.specs.States.{Offers}
 use Rattle.replay_runs.specs.controls.Asking.{unit_of_task}
 use Rattle.replay_runs.specs.controls.translated.Laws.{form_and_text, unit_translation}
 use Rattle.replay_runs.specs.controls.meanings.Pairs.{IsOfForm}

@@ -23,7 +23,7 @@ use Rattle.task_laws.specs.translation.OldTexts.{only_names}
 use Rattle.normal_model.specs.RewrittenUnit.{RewrittenUnit}
 use Rattle.normal_model.specs.Making.{one}
 use Rattle.normal_model.specs.Walk.{rewritten, inside_maybe}
-use Rattle.normalisable.specs.Laws.{IsLegalOriginal}
+use Rattle.normal_laws.specs.existence.Laws.{IsLegalOriginal}
 use Rattle.run_laws.specs.replaying.Permits.{Permit, ToMeet, ToFinish, ToElse, ToDelay, ToCallElse, ToExpire, ToFail, ToEnd, ToAbort, ToClose}
 use Rattle.run_laws.specs.replaying.Copies.{Spots}
 use Rattle.replay_runs.specs.script.Spelling.{kind, arg, index}

@@ -37,9 +37,9 @@ use Rattle.task_laws.proofs.translation.Frames.{sees-alike}
 use Rattle.normal_model.specs.RewrittenUnit.{RewrittenUnit}
 use Rattle.normal_model.specs.Making.{one}
 use Rattle.normal_model.specs.Walk.{after_alts, rewritten, inside_maybe, inside_alts, image_of}
-use Rattle.normal_runs.specs.floors.Preludes.{Reaches, reaches_here, reaches_by}
-use Rattle.normal_runs.proofs.callees.Choosing.{reaches-behind}
-use Rattle.normalisable.specs.Laws.{IsLegalOriginal}
+use Rattle.normal_laws.specs.runs.floors.Preludes.{Reaches, reaches_here, reaches_by}
+use Rattle.normal_laws.proofs.runs.callees.Choosing.{reaches-behind}
+use Rattle.normal_laws.specs.existence.Laws.{IsLegalOriginal}
 use Rattle.run_laws.specs.replaying.Permits.{Permit, ToMeet, ToFinish, ToElse, ToDelay, ToCallElse, ToExpire, ToFail, ToEnd, ToAbort, ToClose, wants}
 use Rattle.run_laws.specs.replaying.Copies.{Spots, shows}
 use Rattle.replay_runs.specs.script.Spelling.{kind, arg, index}
@@ -57,7 +57,7 @@ use Rattle.replay_runs.specs.starts.Laws.{form_in, text_in}
 use Rattle.replay_runs.specs.starts.Formals.{text_setting}
 use Rattle.replay_runs.specs.translation.Rows.{Replayed}
 use Rattle.replay_runs.proofs.translation.Rows.{are-images, rows}
-use Rattle.replay_runs.specs.controls.Laws.{Offers}
+use Rattle.table_law.specs.States.{Offers}
 use Rattle.replay_runs.specs.controls.Asking.{unit_of_task, permit_stored}
 use Rattle.replay_runs.specs.controls.Imitating.{permit_values}
 use Rattle.replay_runs.specs.controls.formed.Laws.{IsWaitFormed}

@@ -11,8 +11,8 @@ use Rattle.task_model.specs.Tasks.{Task, vars_of, entered, stmts_or_none, or_rai
 use Rattle.task_model.specs.Steps.{condition, arm_taken}
 use Rattle.task_model.specs.Stands.{stepped}
 use Rattle.task_model.specs.Rendezvous.{resumed}
-use Rattle.normal_runs.specs.floors.Preludes.{Reaches, reaches_here, reaches_by}
-use Rattle.normal_runs.proofs.waits.Choices.{truth-of}
+use Rattle.normal_laws.specs.runs.floors.Preludes.{Reaches, reaches_here, reaches_by}
+use Rattle.normal_laws.proofs.runs.waits.Choices.{truth-of}
 use Rattle.run_laws.specs.replaying.Copies.{AtNothing, Spots}
 use Rattle.replay_model.specs.Asking.{ask}
 use Rattle.replay_runs.specs.starts.Laws.{text_in}

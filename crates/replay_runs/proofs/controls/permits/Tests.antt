@@ -22,8 +22,8 @@ use Rattle.ada_value.specs.Evaluating.{name_value, combined, evaluated}
 use Rattle.ada_value.proofs.StaticLaws.{natural_integer}
 use Rattle.task_model.specs.Setting.{Setting}
 use Rattle.normal_model.specs.Ranges.{kind_of_range, family_range}
-use Rattle.normal_runs.specs.floors.Preludes.{IsCell}
-use Rattle.normal_runs.proofs.waits.Choices.{truth-of}
+use Rattle.normal_laws.specs.runs.floors.Preludes.{IsCell}
+use Rattle.normal_laws.proofs.runs.waits.Choices.{truth-of}
 use Rattle.replay_model.specs.Names.{kind_text, argument_text, index_text, added_id}
 use Rattle.replay_model.specs.Asking.{both, as_number, number_in, member_number, permit_is_kind, permit_is_for, permit_is_at}
 use Rattle.replay_runs.specs.starts.Laws.{form_in}

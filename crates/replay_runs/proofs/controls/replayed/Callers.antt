@@ -10,8 +10,8 @@ use Rattle.event_machine.specs.declared.Event.TheVariants.{R, E, S, D, C, T, F, 
 use Rattle.ada_tree.specs.PlainProgram.{PProgram}
 use Rattle.syn_event.specs.Numbering.{Numbering}
 use Rattle.seq_file.specs.Known.{is_task, is_known_member, is_known}
-use Rattle.normal_runs.specs.forms.Normalisable.{numbers_of}
-use Rattle.normalisable.specs.Laws.{IsLegalOriginal}
+use Rattle.normal_laws.specs.runs.forms.Normalisable.{numbers_of}
+use Rattle.normal_laws.specs.existence.Laws.{IsLegalOriginal}
 use Rattle.replay_is_legal.specs.known.Laws.{AreKnown}
 use Rattle.replay_model.specs.ReplayTree.{last_task}
 use Rattle.replay_runs.specs.starts.Laws.{form_in}
@@ -36,4 +36,4 @@ pub have_callers : (p : PProgram) (events : List Event) → IsLegalOriginal p �
 have_callers p events h known =
     subst (λ n. AllByRecursion (HasCaller n) events) (as-many-numbers p h)
     (all_weaker (λ (e : Event). is_known (numbers_of p) e ≡ true) (HasCaller (length (numbers_of p).tasks)) events (known-caller (numbers_of p))
-    (recursion_from_All (λ (e : Event). is_known (numbers_of p) e ≡ true) events known))
+    (recursion_from_All (λ (e : Event). is_known (numbers_of p) e ≡ true) events known.each))

@@ -9,7 +9,7 @@ use Rattle.task_model.specs.TaskOps.{task_ops}
 use Rattle.task_model.specs.Machine.{ProgramWithInputs, Tasks, setting_of, first_tasks}
 use Rattle.task_model.specs.Starting.{unit_of, started_in}
 use Rattle.run_laws.specs.imitation.Shown.{Opened}
-use Rattle.normal_runs.specs.forms.Normalisable.{numbers_of}
+use Rattle.normal_laws.specs.runs.forms.Normalisable.{numbers_of}
 use Rattle.replay_runs.specs.controls.replayed.Replaying.{AgreeBelow}
 use Rattle.replay_runs.specs.controls.replayed.Laws.{InputsBelowCount}
 

@@ -8,9 +8,9 @@ use Rattle.task_model.specs.Tasks.{Task}
 use Rattle.task_model.specs.Machine.{ProgramWithInputs}
 use Rattle.task_laws.proofs.invariants.Beginning.{length_first}
 use Rattle.run_laws.specs.imitation.Shown.{Opened}
-use Rattle.normal_runs.specs.runs.Laws.{opened}
-use Rattle.normal_runs.specs.forms.Normalisable.{numbers_of}
-use Rattle.normalisable.specs.Laws.{IsLegalOriginal}
+use Rattle.normal_laws.specs.runs.runs.Laws.{opened}
+use Rattle.normal_laws.specs.runs.forms.Normalisable.{numbers_of}
+use Rattle.normal_laws.specs.existence.Laws.{IsLegalOriginal}
 use Rattle.replay_model.specs.ReplayNumbers.{numbers_replayed}
 use Rattle.replay_is_legal.specs.Laws.{text_for}
 use Rattle.replay_is_legal.proofs.Legal.{legal_replay_has_numbers}

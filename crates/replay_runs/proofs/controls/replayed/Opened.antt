@@ -14,10 +14,10 @@ use Rattle.task_model.specs.Machine.{opening_of, rules_of}
 use Rattle.task_model.proofs.Following.{opens}
 use Rattle.task_laws.proofs.invariants.Beginning.{first_is}
 use Rattle.task_laws.proofs.statements.Blocks.{tasks_start_outside}
-use Rattle.normal_runs.specs.floors.Preludes as prelude
-use Rattle.normal_runs.specs.forms.Normalisable.{numbers_of}
-use Rattle.normalisable.specs.Laws.{IsLegalOriginal}
-use Rattle.normalisable.proofs.statements.Normal.{legal_tasks_name_simply}
+use Rattle.normal_laws.specs.runs.floors.Preludes as prelude
+use Rattle.normal_laws.specs.runs.forms.Normalisable.{numbers_of}
+use Rattle.normal_laws.specs.existence.Laws.{IsLegalOriginal}
+use Rattle.normal_laws.proofs.existence.statements.Normal.{legal_tasks_name_simply}
 use Rattle.run_laws.specs.imitation.Shown as shown
 use Rattle.run_laws.specs.replaying.Permits.{Op}
 use Rattle.run_laws.specs.replaying.Scripts.{script}
@@ -32,7 +32,8 @@ use Rattle.replay_is_legal.specs.Laws.{text_for}
 use Rattle.replay_is_legal.specs.known.Laws.{AreKnown}
 use Rattle.replay_runs.specs.starts.Laws.{form_in}
 use Rattle.replay_runs.specs.starts.Formals.{form_setting, text_setting}
-use Rattle.replay_runs.specs.controls.Laws.{LeadsTo, control_number}
+use Rattle.table_law.specs.States.{LeadsTo}
+use Rattle.replay_runs.specs.controls.Laws.{control_number}
 use Rattle.replay_runs.specs.controls.Imitating.{LeadsInto, law_script}
 use Rattle.replay_runs.specs.controls.meanings.Pairs.{IsOfForm, IsPair}
 use Rattle.replay_runs.specs.controls.meanings.Copies.{MeetsCopy}

@@ -27,21 +27,21 @@ use Rattle.common_lemmas.proofs.Numbers.{equal_is, equal_self, one_more, unequal
 use Rattle.common_lemmas.proofs.Options.{some_same}
 use Rattle.legal_programs.specs.rewritten_values.Values.{old_names}
 use Rattle.legal_programs.proofs.rewritten_values.Saying.{place-within}
-use Rattle.normal_structure.specs.types.Own.{own_name}
-use Rattle.normal_structure.specs.types.Laws.{AreOwn}
-use Rattle.normal_structure.specs.numbers.Laws.{NoneIsDed}
-use Rattle.normal_structure.specs.once.Apart.{IsFreeOf, IsAlone, fixed_names}
-use Rattle.normal_structure.specs.once.Names.{entries_names, IsFitDecl}
-use Rattle.normal_structure.proofs.once.Fits.{inner_is_fit}
-use Rattle.normal_structure.proofs.once.Parts.{fit-in-alone}
-use Rattle.normal_structure.proofs.numbers.Named.{Has, begins-within, own-within, own-not-added}
-use Rattle.normal_structure.proofs.numbers.Tasked.{under}
-use Rattle.normal_structure.proofs.numbers.TaskNames.{IsFine, normal-begins, all-fine, entries-own}
-use Rattle.normal_structure.proofs.units.Declared.{parts-all, numbered-tasks-all}
-use Rattle.normal_runs.specs.forms.Normalisable.{numbers_of, setting_for, made_for}
-use Rattle.normalisable.specs.Laws.{IsLegalOriginal}
-use Rattle.normal_is_legal.proofs.checks.Facts as facts
-use Rattle.normal_is_legal.proofs.numbers.Numbered.{none_legal_is_ded}
+use Rattle.normal_laws.specs.structure.types.Own.{own_name}
+use Rattle.normal_laws.specs.structure.types.Laws.{AreOwn}
+use Rattle.normal_laws.specs.structure.numbers.Laws.{NoneIsDed}
+use Rattle.normal_laws.specs.structure.once.Apart.{IsFreeOf, IsAlone, fixed_names}
+use Rattle.normal_laws.specs.structure.once.Names.{entries_names, IsFitDecl}
+use Rattle.normal_laws.proofs.structure.once.Fits.{inner_is_fit}
+use Rattle.normal_laws.proofs.structure.once.Parts.{fit-in-alone}
+use Rattle.normal_laws.proofs.structure.numbers.Named.{Has, begins-within, own-within, own-not-added}
+use Rattle.normal_laws.proofs.structure.numbers.Tasked.{under}
+use Rattle.normal_laws.proofs.structure.numbers.TaskNames.{IsFine, normal-begins, all-fine, entries-own}
+use Rattle.normal_laws.proofs.structure.units.Declared.{parts-all, numbered-tasks-all}
+use Rattle.normal_laws.specs.runs.forms.Normalisable.{numbers_of, setting_for, made_for}
+use Rattle.normal_laws.specs.existence.Laws.{IsLegalOriginal}
+use Rattle.normal_laws.proofs.legality.checks.Facts as facts
+use Rattle.normal_laws.proofs.legality.numbers.Numbered.{none_legal_is_ded}
 use Rattle.replay_model.specs.Names.{double_text, replay_names}
 use Rattle.replay_structure.specs.spots.Laws.{AreOriginal, is_named_so}
 use Rattle.replay_structure.proofs.spots.First.{first, front, past, there, none, first-alike}

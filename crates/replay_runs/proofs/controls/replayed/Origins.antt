@@ -22,12 +22,12 @@ use Rattle.common_lemmas.proofs.Lists.{all_by_place, all_paired, all_weaker, ele
 use Rattle.common_lemmas.proofs.Numbers.{lt_false, more_zero}
 use Rattle.common_lemmas.proofs.Truth.{false_behind, if_false, if_true}
 use Rattle.legal_programs.proofs.rewritten_types.Lookups.{place-more}
-use Rattle.normal_structure.proofs.numbers.Named.{reserved-added, text-there, added-longer, own-within, own-not-added}
-use Rattle.normal_structure.proofs.numbers.Tasked.{under, normal-tasks-of}
-use Rattle.normal_structure.proofs.numbers.TaskNames.{IsFine, IsNamed, normal-begins, all-fine, all-named}
-use Rattle.normal_runs.specs.forms.Normalisable.{numbers_of, setting_for, made_for}
-use Rattle.normalisable.specs.Laws.{IsLegalOriginal}
-use Rattle.normal_is_legal.proofs.checks.Facts as facts
+use Rattle.normal_laws.proofs.structure.numbers.Named.{reserved-added, text-there, added-longer, own-within, own-not-added}
+use Rattle.normal_laws.proofs.structure.numbers.Tasked.{under, normal-tasks-of}
+use Rattle.normal_laws.proofs.structure.numbers.TaskNames.{IsFine, IsNamed, normal-begins, all-fine, all-named}
+use Rattle.normal_laws.specs.runs.forms.Normalisable.{numbers_of, setting_for, made_for}
+use Rattle.normal_laws.specs.existence.Laws.{IsLegalOriginal}
+use Rattle.normal_laws.proofs.legality.checks.Facts as facts
 use Rattle.run_laws.specs.replaying.Copies.{Spots}
 use Rattle.replay_model.specs.Names.{control_text, idle_text, never_text, join_text, replay_names, added_id}
 use Rattle.replay_model.specs.ReplayTree.{last_task}

@@ -5,10 +5,10 @@ use Rattle.ada_static_rules.specs.Refusals.{types_in}
 use Rattle.syn_event.specs.Origin.{back_of}
 use Rattle.task_model.specs.Machine.{ProgramWithInputs}
 use Rattle.task_laws.proofs.invariants.Beginning.{length_first}
-use Rattle.normal_runs.specs.forms.Normalisable.{numbers_of, made_for}
-use Rattle.normal_structure.specs.units.Laws.{numbers_made}
-use Rattle.normalisable.specs.Laws.{IsLegalOriginal}
-use Rattle.normalisable.proofs.Joined.{legal_is_normal, legal_shows_same}
+use Rattle.normal_laws.specs.runs.forms.Normalisable.{numbers_of, made_for}
+use Rattle.normal_laws.specs.structure.units.Laws.{numbers_made}
+use Rattle.normal_laws.specs.existence.Laws.{IsLegalOriginal}
+use Rattle.normal_laws.proofs.existence.Joined.{legal_is_normal, legal_shows_same}
 use Rattle.replay_runs.specs.controls.replayed.Replaying.{Replays, starting}
 use Rattle.replay_runs.specs.controls.replayed.Laws.{starting_form, LegalFormsCarryOver}
 use Rattle.replay_runs.proofs.controls.replayed.Carried.{replays_carry_over}

@@ -17,7 +17,7 @@ use Rattle.task_model.specs.Machine.{ProgramWithInputs, setting_of}
 use Rattle.task_model.proofs.Following.{opens}
 use Rattle.task_laws.proofs.invariants.Beginning.{length_first, first_is}
 use Rattle.run_laws.specs.imitation.Shown.{Opened, end_from}
-use Rattle.normal_runs.specs.runs.Laws.{opened}
+use Rattle.normal_laws.specs.runs.runs.Laws.{opened}
 use Rattle.replay_model.specs.ReplayTree.{last_task}
 use Rattle.replay_model.specs.ReplayNumbers.{numbers_replayed}
 use Rattle.run_laws.specs.replaying.Copies.{Spots}

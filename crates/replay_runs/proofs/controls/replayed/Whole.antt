@@ -7,9 +7,9 @@ use Rattle.syn_event.specs.Origin.{back_of}
 use Rattle.task_model.specs.Tasks.{Task}
 use Rattle.run_laws.specs.imitation.Shown.{Opened}
 use Rattle.run_laws.specs.replaying.Copies.{Spots}
-use Rattle.normal_structure.specs.placed.Example.{passing}
-use Rattle.normal_runs.specs.forms.Normalisable.{numbers_of}
-use Rattle.normalisable.specs.Laws.{IsLegalOriginal}
+use Rattle.normal_laws.specs.structure.placed.Example.{passing}
+use Rattle.normal_laws.specs.runs.forms.Normalisable.{numbers_of}
+use Rattle.normal_laws.specs.existence.Laws.{IsLegalOriginal}
 use Rattle.replay_model.specs.ReplayTree.{last_task}
 use Rattle.replay_structure.specs.checked.Example.{example_events}
 use Rattle.replay_structure.proofs.spots.Ordered.{normal_is_in_order}

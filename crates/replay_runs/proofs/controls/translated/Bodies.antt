@@ -29,17 +29,17 @@ use Rattle.legal_programs.proofs.types.MainScopes.{StandsWhole, bodies-stand}
 use Rattle.legal_programs.proofs.types.BodyScopes.{BodiesStand, bodies-all}
 use Rattle.task_laws.specs.translation.Translations.{Programs}
 use Rattle.task_laws.specs.translation.OldTexts.{Asked, only_names, OldBody, old_body, old_no_stmt, old_no_handler}
-use Rattle.normal_structure.specs.checked.Around.{own_rules}
-use Rattle.normal_runs.specs.forms.Normalisable.{made_for}
-use Rattle.normal_is_legal.proofs.Legal.{normal_meets_types, normal_is_legal}
-use Rattle.normalisable.specs.Laws.{IsLegalOriginal}
-use Rattle.normalisable.specs.inner.Gives.{Known, Gives}
-use Rattle.normalisable.proofs.units.Apart.{all-apart}
-use Rattle.normalisable.proofs.walked_statements.Walk.{body-as-asked}
-use Rattle.normalisable.proofs.statement_forms.Text.{IsLocal, IsKnownPlace, AreTyped}
-use Rattle.normalisable.proofs.body_forms.Typing.{locals-of, are-typed}
-use Rattle.normal_is_legal.proofs.checks.Facts as facts
-use Rattle.normalisable.proofs.statements.Asked.{nothing-asked}
+use Rattle.normal_laws.specs.structure.checked.Around.{own_rules}
+use Rattle.normal_laws.specs.runs.forms.Normalisable.{made_for}
+use Rattle.normal_laws.proofs.legality.Legal.{normal_meets_types, normal_is_legal}
+use Rattle.normal_laws.specs.existence.Laws.{IsLegalOriginal}
+use Rattle.normal_laws.specs.existence.inner.Gives.{Known, Gives}
+use Rattle.normal_laws.proofs.existence.units.Apart.{all-apart}
+use Rattle.normal_laws.proofs.existence.walked_statements.Walk.{body-as-asked}
+use Rattle.normal_laws.proofs.existence.statement_forms.Text.{IsLocal, IsKnownPlace, AreTyped}
+use Rattle.normal_laws.proofs.existence.body_forms.Typing.{locals-of, are-typed}
+use Rattle.normal_laws.proofs.legality.checks.Facts as facts
+use Rattle.normal_laws.proofs.existence.statements.Asked.{nothing-asked}
 use Rattle.replay_is_legal.proofs.names.form_names.Owned.{names-old}
 use Rattle.replay_runs.specs.starts.Laws.{form_in}
 use Rattle.replay_runs.specs.starts.Formals.{form_setting}

@@ -26,17 +26,17 @@ use Rattle.legal_programs.proofs.rewritten_types.Refused.{declared_once}
 use Rattle.legal_programs.proofs.rewritten_types.Staying.{staying_is_front}
 use Rattle.legal_programs.specs.rewritten_values.Values.{AgreeOnValues, old_names}
 use Rattle.legal_programs.proofs.rewritten_values.Staying.{objects_stay}
-use Rattle.normal_structure.specs.checked.Around.{own_rules}
-use Rattle.normal_runs.specs.forms.Normalisable.{made_for, IsPlain}
-use Rattle.normal_is_legal.proofs.Legal.{normal_meets_types}
-use Rattle.normal_runs.specs.floors.NormalFloors.{Extends, extends_none, extends_old, extends_new}
-use Rattle.normalisable.specs.Laws.{IsLegalOriginal}
-use Rattle.normalisable.specs.units.Laws.{IsFreeLocal}
-use Rattle.normalisable.proofs.units.ArrayConstants.{arrays-free}
-use Rattle.normalisable.proofs.units.Lacking.{locals-free}
-use Rattle.normalisable.proofs.units.Plain.{IsPlainObject, units-plain, main-plain}
-use Rattle.normalisable.proofs.units.TypedNames.{stand-still}
-use Rattle.normal_is_legal.proofs.checks.Facts as facts
+use Rattle.normal_laws.specs.structure.checked.Around.{own_rules}
+use Rattle.normal_laws.specs.runs.forms.Normalisable.{made_for, IsPlain}
+use Rattle.normal_laws.proofs.legality.Legal.{normal_meets_types}
+use Rattle.normal_laws.specs.runs.floors.NormalFloors.{Extends, extends_none, extends_old, extends_new}
+use Rattle.normal_laws.specs.existence.Laws.{IsLegalOriginal}
+use Rattle.normal_laws.specs.existence.units.Laws.{IsFreeLocal}
+use Rattle.normal_laws.proofs.existence.units.ArrayConstants.{arrays-free}
+use Rattle.normal_laws.proofs.existence.units.Lacking.{locals-free}
+use Rattle.normal_laws.proofs.existence.units.Plain.{IsPlainObject, units-plain, main-plain}
+use Rattle.normal_laws.proofs.existence.units.TypedNames.{stand-still}
+use Rattle.normal_laws.proofs.legality.checks.Facts as facts
 use Rattle.replay_model.specs.Names.{kind_text, argument_text, index_text, added_id}
 use Rattle.replay_model.specs.ReplayTree.{last_task}
 use Rattle.replay_is_legal.proofs.names.form_names.Owned.{names-old}

@@ -19,13 +19,13 @@ use Rattle.task_laws.proofs.statements.Carried.{exits_are_in_loops}
 use Rattle.task_laws.specs.translation.Translations.{Programs}
 use Rattle.task_laws.specs.translation.OldTexts.{only_names, OldBody}
 use Rattle.task_laws.specs.translation.Controls.{task_in}
-use Rattle.normal_runs.specs.floors.NormalFloors.{Extends}
+use Rattle.normal_laws.specs.runs.floors.NormalFloors.{Extends}
 use Rattle.normal_model.specs.RewrittenUnit.{RewrittenUnit}
 use Rattle.normal_model.specs.Names.{task_name}
 use Rattle.normal_model.specs.NormalTree.{tasks_beside, unit_for}
-use Rattle.normal_structure.proofs.units.Tasks.{tasks_keep_numbers}
-use Rattle.normal_runs.specs.forms.Normalisable.{numbers_of, setting_for, made_for}
-use Rattle.normalisable.specs.Laws.{IsLegalOriginal}
+use Rattle.normal_laws.proofs.structure.units.Tasks.{tasks_keep_numbers}
+use Rattle.normal_laws.specs.runs.forms.Normalisable.{numbers_of, setting_for, made_for}
+use Rattle.normal_laws.specs.existence.Laws.{IsLegalOriginal}
 use Rattle.replay_model.specs.ReplayStmts.{replay_body}
 use Rattle.replay_model.specs.ReplayTree.{last_task, script_of}
 use Rattle.replay_model.specs.ReplayNumbers.{numbers_replayed}

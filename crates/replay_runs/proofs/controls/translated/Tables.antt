@@ -31,13 +31,13 @@ use Rattle.legal_programs.proofs.rewritten_types.Rooting.{rooted_agrees}
 use Rattle.legal_programs.specs.rewritten_values.Values.{AgreeOnValues}
 use Rattle.legal_programs.proofs.rewritten_values.Saying.{tables_agree_on_values}
 use Rattle.legal_programs.proofs.rewritten_values.Named.{literals_are_named}
-use Rattle.normal_structure.proofs.types.Normal.{front-after, normal_is_rooted}
-use Rattle.normal_structure.proofs.types.Variables.{IsTaskOrBody, tasks-only, bodies-only, unit-all}
-use Rattle.normal_structure.proofs.numbers.Listed.{vars, tasks, bodies}
+use Rattle.normal_laws.proofs.structure.types.Normal.{front-after, normal_is_rooted}
+use Rattle.normal_laws.proofs.structure.types.Variables.{IsTaskOrBody, tasks-only, bodies-only, unit-all}
+use Rattle.normal_laws.proofs.structure.numbers.Listed.{vars, tasks, bodies}
 use Rattle.normal_model.proofs.WalkLemmas.{listed-front}
-use Rattle.normal_runs.specs.forms.Normalisable.{numbers_of, setting_for, made_for}
-use Rattle.normalisable.specs.Laws.{IsLegalOriginal}
-use Rattle.normal_is_legal.proofs.checks.Facts as facts
+use Rattle.normal_laws.specs.runs.forms.Normalisable.{numbers_of, setting_for, made_for}
+use Rattle.normal_laws.specs.existence.Laws.{IsLegalOriginal}
+use Rattle.normal_laws.proofs.legality.checks.Facts as facts
 use Rattle.replay_structure.proofs.texts.Listed.{all-behind}
 use Rattle.replay_structure.proofs.texts.Rooted.{replay-begins, added_of, replay-list}
 use Rattle.replay_runs.specs.starts.Laws.{form_in, text_in}

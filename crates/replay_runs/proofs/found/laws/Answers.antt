@@ -1,4 +1,4 @@
-use Rattle.normalisable.proofs.Instance.{choosing-is-legal}
+use Rattle.normal_laws.proofs.existence.Instance.{choosing-is-legal}
 use Rattle.replay_runs.proofs.found.Doubled.{doubles_are_found}
 use Rattle.replay_runs.proofs.found.Added.{more_are_found}
 use Rattle.replay_runs.proofs.found.Legal.{legal_has_names_apart, legal_doubles_are_found, legal_more_are_found}

@@ -27,10 +27,10 @@ use Rattle.task_laws.specs.translation.Scopes.{SeeAlike}
 use Rattle.normal_model.specs.Making.{variable}
 use Rattle.normal_model.specs.Ranges.{subtype_of_range, family_range}
 use Rattle.normal_model.specs.Waits.{head_of}
-use Rattle.normal_runs.specs.forms.Normalisable.{setting_for, variables_of}
-use Rattle.normal_structure.specs.asked.Pieces.{IsVariable, IsGuard}
-use Rattle.normalisable.specs.Laws.{IsLegalOriginal}
-use Rattle.normalisable.specs.statements.Laws.{IsSimpleName}
+use Rattle.normal_laws.specs.runs.forms.Normalisable.{setting_for, variables_of}
+use Rattle.normal_laws.specs.structure.asked.Pieces.{IsVariable, IsGuard}
+use Rattle.normal_laws.specs.existence.Laws.{IsLegalOriginal}
+use Rattle.normal_laws.specs.existence.statements.Laws.{IsSimpleName}
 use Rattle.replay_structure.specs.typed.ScopeOf.{has_accept}
 use Rattle.replay_runs.specs.starts.Laws.{form_in}
 use Rattle.replay_runs.specs.starts.Formals.{form_setting, text_setting}

@@ -17,15 +17,15 @@ use Rattle.task_model.specs.Rendezvous.{resumed, pending_of, finals_of}
 use Rattle.task_laws.specs.statements.Blocks.{HasLeftBlocks}
 use Rattle.task_laws.specs.statements.Each.{HoldsOf}
 use Rattle.task_laws.specs.translation.Controls.{Alike, AreInside, AreAround}
-use Rattle.normal_runs.specs.floors.Preludes.{Reaches}
-use Rattle.normalisable.specs.Laws.{IsLegalOriginal}
-use Rattle.normalisable.specs.statements.Laws.{NamesTasksSimply}
+use Rattle.normal_laws.specs.runs.floors.Preludes.{Reaches}
+use Rattle.normal_laws.specs.existence.Laws.{IsLegalOriginal}
+use Rattle.normal_laws.specs.existence.statements.Laws.{NamesTasksSimply}
 use Rattle.run_laws.specs.replaying.Copies.{Spots}
 use Rattle.replay_model.specs.Asking.{ask}
 use Rattle.replay_model.specs.ReplayTree.{last_task}
 use Rattle.replay_structure.specs.spots.Places.{text_spots}
 use Rattle.replay_runs.specs.starts.Laws.{form_in, text_in}
-use Rattle.replay_runs.specs.controls.Laws.{Offers}
+use Rattle.table_law.specs.States.{Offers}
 use Rattle.replay_runs.specs.controls.Asking.{unit_of_task, Surroundings, with_next, having, permit_stored, HoldsPermit}
 use Rattle.replay_runs.specs.controls.permits.Laws.{FitsInteger, TakesBranch}
 use Rattle.replay_runs.specs.controls.translated.Laws.{unit_translation}

@@ -14,7 +14,7 @@ use Rattle.task_model.specs.Rendezvous.{accepted, finished, resumed, call_failed
 use Rattle.task_laws.specs.translation.OldTexts.{only_names, OldStmt}
 use Rattle.task_laws.specs.translation.Controls.{task_in, Under}
 use Rattle.normal_model.specs.Walk.{image_of}
-use Rattle.normalisable.specs.Laws.{IsLegalOriginal}
+use Rattle.normal_laws.specs.existence.Laws.{IsLegalOriginal}
 use Rattle.run_laws.specs.replaying.Permits.{Permit}
 use Rattle.run_laws.specs.replaying.Copies.{Spots}
 use Rattle.replay_runs.specs.script.Spelling.{arg, index}

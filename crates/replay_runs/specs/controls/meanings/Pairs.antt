@@ -9,8 +9,8 @@ use Rattle.task_laws.specs.statements.Blocks.{HasLeftBlocks}
 use Rattle.task_laws.specs.statements.Each.{HoldsOf}
 use Rattle.task_laws.specs.statements.Laws.{ExitLeaves}
 use Rattle.task_laws.specs.translation.Controls.{Alike}
-use Rattle.normal_runs.specs.floors.Preludes.{Reaches}
-use Rattle.normalisable.specs.statements.Laws.{NamesTasksSimply}
+use Rattle.normal_laws.specs.runs.floors.Preludes.{Reaches}
+use Rattle.normal_laws.specs.existence.statements.Laws.{NamesTasksSimply}
 use Rattle.replay_model.specs.ReplayTree.{last_task}
 use Rattle.replay_runs.specs.starts.Laws.{form_in}
 use Rattle.replay_runs.specs.controls.formed.Laws.{IsFormed}

@@ -11,13 +11,13 @@ use Rattle.task_model.specs.Tasks.{Task}
 use Rattle.task_model.specs.Calls.{values_handed}
 use Rattle.task_model.specs.Stands.{offer_of}
 use Rattle.task_model.specs.Rendezvous.{accepted, finished, resumed, call_failed, took_else, took_delay, past_name, pending_of, finals_of}
-use Rattle.normal_runs.specs.floors.Preludes.{Reaches}
-use Rattle.normal_runs.specs.floors.Meetings.{AreValues}
+use Rattle.normal_laws.specs.runs.floors.Preludes.{Reaches}
+use Rattle.normal_laws.specs.runs.floors.Meetings.{AreValues}
 use Rattle.run_laws.specs.replaying.Permits.{Permit, ToMeet, ToFinish, ToElse, ToDelay, ToCallElse, ToExpire, ToFail, ToEnd, ToAbort, ToClose}
 use Rattle.run_laws.specs.replaying.Copies.{Spots, held_offer}
 use Rattle.replay_structure.specs.spots.Places.{text_spots}
 use Rattle.replay_runs.specs.starts.Laws.{form_in}
-use Rattle.replay_runs.specs.controls.Laws.{Offers}
+use Rattle.table_law.specs.States.{Offers}
 use Rattle.replay_runs.specs.controls.meanings.Pairs.{Comes}
 use Rattle.replay_runs.specs.controls.translated.Laws.{form_and_text}
 

@@ -16,9 +16,9 @@ use Rattle.task_model.specs.Stands.{offer_of}
 use Rattle.task_model.specs.TaskOps.{task_ops}
 use Rattle.task_model.specs.Machine.{ProgramWithInputs, opening_of}
 use Rattle.task_model.specs.Laws.{IsProper, program_in}
-use Rattle.normal_structure.specs.placed.Example.{passing}
-use Rattle.normal_runs.specs.runs.Laws.{IsCalm}
-use Rattle.normalisable.specs.Laws.{IsLegalOriginal}
+use Rattle.normal_laws.specs.structure.placed.Example.{passing}
+use Rattle.normal_laws.specs.runs.runs.Laws.{IsCalm}
+use Rattle.normal_laws.specs.existence.Laws.{IsLegalOriginal}
 use Rattle.run_laws.specs.replaying.Copies.{Spots, IsNumbered, HasOwners}
 use Rattle.run_laws.specs.replaying.Scripts.{IsProgress}
 use Rattle.run_laws.specs.replaying.Rewritings.{Setting, Imitates}

@@ -18,8 +18,8 @@ use Rattle.ada_value.specs.Variables.{Variables}
 use Rattle.ada_value.specs.Evaluating.{evaluated}
 use Rattle.task_model.specs.Tasks.{Task, stmts_or_none, entered}
 use Rattle.task_model.specs.Rendezvous.{resumed, pending_of, finals_of}
-use Rattle.normal_runs.specs.floors.Preludes.{Reaches}
-use Rattle.normalisable.specs.Laws.{IsLegalOriginal}
+use Rattle.normal_laws.specs.runs.floors.Preludes.{Reaches}
+use Rattle.normal_laws.specs.existence.Laws.{IsLegalOriginal}
 use Rattle.replay_model.specs.Names.{kind_text}
 use Rattle.replay_model.specs.Asking.{ask, permit_part, both, permit_is_kind, permit_is_for, permit_is_at}
 use Rattle.replay_model.specs.ReplayTree.{last_task}

@@ -6,11 +6,11 @@ use Rattle.ada_static_rules.specs.Refusals.{types_in}
 use Rattle.syn_event.specs.Origin.{back_of}
 use Rattle.task_model.specs.Tasks.{Task}
 use Rattle.run_laws.specs.imitation.Shown.{Opened, ShowSame}
-use Rattle.normal_structure.specs.units.Laws.{numbers_made}
-use Rattle.normal_runs.specs.runs.Laws.{opened}
-use Rattle.normal_runs.specs.forms.Normalisable.{numbers_of, made_for}
-use Rattle.normal_structure.specs.placed.Example.{passing}
-use Rattle.normalisable.specs.Laws.{IsLegalOriginal}
+use Rattle.normal_laws.specs.structure.units.Laws.{numbers_made}
+use Rattle.normal_laws.specs.runs.runs.Laws.{opened}
+use Rattle.normal_laws.specs.runs.forms.Normalisable.{numbers_of, made_for}
+use Rattle.normal_laws.specs.structure.placed.Example.{passing}
+use Rattle.normal_laws.specs.existence.Laws.{IsLegalOriginal}
 use Rattle.replay_structure.specs.checked.Example.{example_events}
 use Rattle.replay_is_legal.specs.Laws.{text_for}
 use Rattle.replay_is_legal.specs.known.Laws.{AreKnown}

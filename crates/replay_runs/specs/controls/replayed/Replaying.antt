@@ -14,8 +14,8 @@ use Rattle.ada_static_rules.specs.Refusals.{types_in}
 use Rattle.syn_event.specs.Origin.{back_of}
 use Rattle.task_model.specs.Tasks.{Task}
 use Rattle.run_laws.specs.imitation.Shown.{Opened, end_from}
-use Rattle.normal_runs.specs.runs.Laws.{opened}
-use Rattle.normal_runs.specs.forms.Normalisable.{numbers_of}
+use Rattle.normal_laws.specs.runs.runs.Laws.{opened}
+use Rattle.normal_laws.specs.runs.forms.Normalisable.{numbers_of}
 
 -- ---- one program and a rewritten one
 

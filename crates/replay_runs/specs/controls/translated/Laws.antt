@@ -14,8 +14,8 @@ use Rattle.task_laws.specs.translation.Scopes.{AgreeOnTypes}
 use Rattle.task_laws.specs.translation.OldTexts.{only_names, OldBody}
 use Rattle.task_laws.specs.translation.Translations.{Programs, Translation}
 use Rattle.task_laws.specs.translation.Controls.{IsAtLocal, AreInside, StepAlike}
-use Rattle.normal_runs.specs.floors.NormalFloors.{Extends}
-use Rattle.normalisable.specs.Laws.{IsLegalOriginal}
+use Rattle.normal_laws.specs.runs.floors.NormalFloors.{Extends}
+use Rattle.normal_laws.specs.existence.Laws.{IsLegalOriginal}
 use Rattle.replay_model.specs.ReplayTree.{last_task}
 use Rattle.replay_runs.specs.starts.Laws.{form_in, start_before, start_after}
 use Rattle.replay_runs.specs.starts.Formals.{form_setting, text_setting}

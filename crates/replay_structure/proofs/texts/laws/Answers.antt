@@ -1,4 +1,4 @@
-use Rattle.normal_structure.proofs.numbers.Extents.{extent-alike}
+use Rattle.normal_laws.proofs.structure.numbers.Extents.{extent-alike}
 use Rattle.replay_structure.proofs.texts.Rooted.{replay_is_rooted, replay_agrees}
 use Rattle.replay_structure.proofs.texts.Numbered.{replay_numbered}
 use Rattle.replay_structure.proofs.texts.Asked.{legal_is_asked}

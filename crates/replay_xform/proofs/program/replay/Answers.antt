@@ -7,10 +7,10 @@ use Rattle.replay_xform.proofs.program.replay.Goals as goal
 
 pub returns-in-Ok-clause-text : goal.returns-in-Ok-clause-text
 returns-in-Ok-clause-text c =
-    let short : nat_lt 20000 (length c.args.events.now) ≡ false = grind (arith, nat_tests) in
+    let short : nat_lt 200000 (length c.args.events.now) ≡ false = grind (arith, nat_tests) in
     text-is (plain_program c.args.p.now) c.args.types.now c.args.numbers.now c.args.events.now (plain_program c.in-Ok.text) short c.in-Ok.ensures
 
 pub returns-in-Ok-clause-limit : goal.returns-in-Ok-clause-limit
 returns-in-Ok-clause-limit c = λ long.
-    let short : nat_lt 20000 (length c.args.events.now) ≡ false = grind (arith, nat_tests) in
+    let short : nat_lt 200000 (length c.args.events.now) ≡ false = grind (arith, nat_tests) in
     absurd (false≢true (sym short ∙ long))

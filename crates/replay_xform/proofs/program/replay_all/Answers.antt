@@ -1,12 +1,7 @@
 use Rattle.ada_tree.specs.PlainProgram.{plain_program}
 use Rattle.replay_model.specs.ReplayTree.{normal_setting, script_of}
-use Rattle.replay_xform.proofs.Made.{setting, same-text, setting-is, single-made}
+use Rattle.replay_xform.proofs.Made.{setting, same-text, setting-is}
 use Rattle.replay_xform.proofs.program.replay_all.Goals as goal
-
-pub replay_normal-requires : goal.replay_normal-requires
-replay_normal-requires c =
-    single-made (plain_program c.args.p.now) c.args.types.now c.args.numbers.now (setting (plain_program c.in_ok-q.q) c.args.types.now c.in_ok-renumbered.renumbered)
-    (setting-is (plain_program c.args.p.now) (plain_program c.in_ok-q.q) c.args.types.now c.args.numbers.now c.in_ok-renumbered.renumbered c.in_ok-q.ensures c.in_ok-renumbered.ensures)
 
 pub returns : goal.returns
 returns c =

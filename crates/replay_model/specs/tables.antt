@@ -1,0 +1,5 @@
+pub mod ControlTexts
+pub mod Columns
+pub mod Tables
+pub mod Turns
+pub mod ControlBodies

@@ -1,0 +1,3 @@
+pub mod Permits
+pub mod Example
+pub mod Bodies

@@ -1,2 +1,0 @@
-pub mod Permits
-pub mod Example
