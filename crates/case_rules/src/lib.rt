@@ -1,12 +1,14 @@
-//! The cases of the layer of static rules: types and static values, names in scopes, numbers, events, and files of events, inputs and choices.
+//! The cases of the layer of static rules: types and static values, names in scopes, numbers, events, neighbours in sequences, and files of events, inputs and choices.
 #![tactic(auto)]
 
+mod exchanging;
 mod numbering;
 mod scoping;
 mod sequences;
 mod task_files;
 mod typing;
 
+pub use exchanging::neighbours;
 pub use numbering::{Known, event, known_of, number, numbers, origin};
 pub use scoping::scopes;
 pub use sequences::{put_fault, sequence, sequence_of};

@@ -4,7 +4,7 @@ use Rattle.std.proofs.lemmas.Bool.{cases_lt}
 use Rattle.event_machine.specs.declared.Event.{Event}
 use Rattle.syn_event.specs.Numbering.{Numbering}
 use Rattle.seq_file.specs.Files.{AreFit, SeqText}
-use Rattle.seq_file.specs.Lists.{is_in_lists, list_count, listed, most_listed, AreListsFit, ListReads, ListText}
+use Rattle.seq_file.specs.Lists.{is_in_lists, list_count, listed, most_listed, ListText}
 use Rattle.debug_outcome.specs.Outcomes.{Outcome, writes}
 use Rattle.debug_sequence.specs.MigrateOutcomes.{AreListsOf, AreSplit, Migrates}
 use Rattle.debug_sequence.specs.Sequences.{ReadsAs}
@@ -19,11 +19,10 @@ not_more many tested lists same says false_is = elim (cases_lt most_listed (list
 ]
 
 -- the lists of the events
-pub written_by_tasks : (names : List (List ℕ)) (numbers : Numbering) (events : List Event) (lists : List (List Event)) → length numbers.tasks ≡ list_count numbers → AreFit numbers events →
-    AreListsOf numbers events lists → listed lists ≤ most_listed → (AreListsFit numbers lists → ListReads (ListText names numbers lists) numbers names lists) →
-    AreSplit names numbers events (writes (ListText names numbers lists) 0)
-written_by_tasks names numbers events lists tasks fit source few back =
-    inl (record { lists = lists; lists_of = source; few = few; text = refl; back = back (lists_fit numbers events lists tasks fit source few) })
+pub written_by_tasks : (names : List (List ℕ)) (numbers : Numbering) (events : List Event) (lists : List (List Event)) (o : Outcome) → length numbers.tasks ≡ list_count numbers → AreFit numbers events →
+    AreListsOf numbers events lists → listed lists ≤ most_listed → o ≡ writes (ListText names numbers lists) 0 → AreSplit names numbers events o
+written_by_tasks names numbers events lists o tasks fit source few text =
+    inl (record { lists = lists; lists_of = source; few = few; text = text; back = record { text = refl; fit = lists_fit numbers events lists tasks fit source few } })
 
 -- the order of the lists
 pub written_as_one : (names : List (List ℕ)) (numbers : Numbering) (bytes : List ℕ) (events : List Event) (o : Outcome) → is_in_lists bytes ≡ true → ReadsAs bytes numbers names events → AreFit numbers events →

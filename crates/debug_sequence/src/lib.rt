@@ -2,6 +2,7 @@
 //! which constraints it breaks.
 #![tactic(auto)]
 
+mod gathering;
 mod migrating;
 mod reading;
 mod requiring;

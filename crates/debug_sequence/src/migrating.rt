@@ -10,11 +10,12 @@ ghost use Rattle.debug_outcome.specs.Outcomes.{writes};
 ghost use Rattle.debug_sequence.specs.MigrateOutcomes.{AreSplit, Migrates};
 ghost use Rattle.debug_sequence.specs.inner.Failing.{HasLine, refusal_of_split};
 
+use crate::gathering::{Text, text_of_events, text_of_lists};
 use crate::reading::read_sequence;
 use ada_tree::Names;
 use debug_outcome::{Listed, Refusal, SequenceFault, Stop};
 use ded_io::Sink;
-use seq_file::{is_in_lists, write_lists, write_seq};
+use seq_file::is_in_lists;
 use std::alloc::Global;
 use syn_event::{Event, Numbers};
 use syn_order::{OrderError, split};
@@ -29,8 +30,7 @@ const MIGRATED: u8 = 0;
 ///
 /// The bytes are for the program of these names and numbers, whose tasks are all the original's. Bytes that stand for no sequence are refused as the
 /// reader of sequences refuses them. Events of one list of which one is not admitted by those before it are refused at its line, and lists with more
-/// event lines than a file may have are refused by that limit. The whole sequence is kept until the first line is written, so that want of memory comes
-/// before it. It takes time in step with the lines of both files, and with the tasks of the program for each event at most.
+/// event lines than a file may have are refused by that limit. The whole text is gathered and written at once, so that want of memory comes before it. It takes time in step with the lines of both files, and with the tasks of the program for each event at most.
 pub fn migrate<'w, K: Sink>(
     alloc: Global,
     names: &Names,
@@ -48,7 +48,7 @@ pub fn migrate<'w, K: Sink>(
         Err(stop) => return Err(stop),
     };
     if is_in_lists(bytes) {
-        put_joined(&events, names, numbers, out)
+        put_joined(alloc, &events, names, numbers, out)
     } else {
         put_split(alloc, &events, names, numbers, out)
     }
@@ -56,6 +56,7 @@ pub fn migrate<'w, K: Sink>(
 
 // Writes the events as one list.
 fn put_joined<'w, K: Sink>(
+    alloc: Global,
     events: &[Event],
     names: &Names,
     numbers: &Numbers,
@@ -63,9 +64,9 @@ fn put_joined<'w, K: Sink>(
 ) -> Result<u8, Stop<'w>>
     ensures { Comes (λ o. o ≡ writes (SeqText names.now numbers.now events.now) 0) Never (K.told out.old) (K.told out.new) (K.faults out.old) (K.faults out.new) result }
 {
-    match write_seq(events, numbers, names, out) {
-        Ok(()) => Ok(MIGRATED),
-        Err(_) => Err(Stop::OutputFailed),
+    match text_of_events(alloc, events, numbers, names) {
+        Ok(text) => put_text(&text, out),
+        Err(_) => Err(Stop::Memory),
     }
 }
 
@@ -91,7 +92,17 @@ fn put_split<'w, K: Sink>(
             limit: MOST_LISTED as u32,
         }));
     }
-    match write_lists(&lists, numbers, names, out) {
+    match text_of_lists(alloc, &lists, numbers, names) {
+        Ok(text) => put_text(&text, out),
+        Err(_) => Err(Stop::Memory),
+    }
+}
+
+// Writes a text at once.
+fn put_text<'w, K: Sink>(text: &Text, out: &mut K) -> Result<u8, Stop<'w>>
+    ensures { Comes (λ o. o ≡ writes text.now.bytes 0) Never (K.told out.old) (K.told out.new) (K.faults out.old) (K.faults out.new) result }
+{
+    match out.put(text.bytes()) {
         Ok(()) => Ok(MIGRATED),
         Err(_) => Err(Stop::OutputFailed),
     }

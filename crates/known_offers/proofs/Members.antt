@@ -24,7 +24,7 @@ use Rattle.ada_value.specs.Evaluating.{evaluated}
 use Rattle.task_model.specs.Setting.{entry_of, is_family, is_family_in, family_limits, index_in, member_index, lists_in, lists_of, first_expr}
 use Rattle.task_laws.proofs.invariants.Variables.{chain, ok_path, err_ok}
 use Rattle.legal_programs.specs.types.Typed.{HasLimits}
-use Rattle.normal_structure.proofs.entries.Entries.{numbers, g, HasEntry}
+use Rattle.normal_laws.proofs.structure.entries.Entries.{numbers, g, HasEntry}
 
 -- ---- indices
 

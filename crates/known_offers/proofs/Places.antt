@@ -29,13 +29,13 @@ use Rattle.task_laws.proofs.invariants.Variables.{chain, ok_path}
 use Rattle.legal_programs.specs.sites.Met.{IsMet}
 use Rattle.legal_programs.specs.types.Typed.{HasLimits, IsTypedEntry, IsTypedTask}
 use Rattle.legal_programs.proofs.rewritten_types.Lookups.{find-all}
-use Rattle.normal_structure.proofs.entries.Entries.{entry_in, numbers, g, IsTaskOf, HasEntry, task-there, entry-there}
-use Rattle.normalisable.proofs.seen_tasks.Finding.{no-place}
-use Rattle.normalisable.proofs.seen_tasks.Parts.{FamilyRanged}
-use Rattle.normalisable.proofs.seen_tasks.Tasks.{PartsKnown}
-use Rattle.normalisable.proofs.statement_forms.Callees.{CalleeKnown, callee-first, IsOneOf, first-one, member-one, some-not}
-use Rattle.normalisable.proofs.statement_forms.OwnEntries.{EntryKnown, entry-known, entry-said}
-use Rattle.normalisable.proofs.statement_forms.Typed.{Typing}
+use Rattle.normal_laws.proofs.structure.entries.Entries.{entry_in, numbers, g, IsTaskOf, HasEntry, task-there, entry-there}
+use Rattle.normal_laws.proofs.existence.seen_tasks.Finding.{no-place}
+use Rattle.normal_laws.proofs.existence.seen_tasks.Parts.{FamilyRanged}
+use Rattle.normal_laws.proofs.existence.seen_tasks.Tasks.{PartsKnown}
+use Rattle.normal_laws.proofs.existence.statement_forms.Callees.{CalleeKnown, callee-first, IsOneOf, first-one, member-one, some-not}
+use Rattle.normal_laws.proofs.existence.statement_forms.OwnEntries.{EntryKnown, entry-known, entry-said}
+use Rattle.normal_laws.proofs.existence.statement_forms.Typed.{Typing}
 use Rattle.known_offers.specs.inner.Stated.{IsKnownCall, IsKnownCallee}
 use Rattle.known_offers.proofs.Members.{member-known}
 

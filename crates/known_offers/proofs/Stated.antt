@@ -20,10 +20,10 @@ use Rattle.legal_programs.specs.asked.Asked.{AskedStmt}
 use Rattle.legal_programs.specs.asked.Kinds.{check_asks}
 use Rattle.legal_programs.specs.sites.Met.{IsCheckMet}
 use Rattle.legal_programs.proofs.asked.Checked.{checked_asked}
-use Rattle.normal_structure.proofs.entries.Entries.{g}
-use Rattle.normal_runs.specs.forms.Normalisable.{numbers_of}
-use Rattle.normalisable.specs.Laws.{IsLegalOriginal}
-use Rattle.normalisable.proofs.statements.Asked.{body-each}
+use Rattle.normal_laws.proofs.structure.entries.Entries.{g}
+use Rattle.normal_laws.specs.runs.forms.Normalisable.{numbers_of}
+use Rattle.normal_laws.specs.existence.Laws.{IsLegalOriginal}
+use Rattle.normal_laws.proofs.existence.statements.Asked.{body-each}
 use Rattle.known_offers.specs.inner.Stated.{IsKnownCallee, IsKnownAt, HasFewDelays, delays_behind}
 use Rattle.known_offers.proofs.Texts.{HasAccept, asked, unit-text, unit-checked}
 

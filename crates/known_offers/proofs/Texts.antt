@@ -28,26 +28,26 @@ use Rattle.syn_event.specs.RuleSelectForm.{alt_kinds, is_accept, is_terminate, k
 use Rattle.task_model.specs.Starting.{unit_of, unit_of_info, unit_among}
 use Rattle.task_laws.specs.translation.Translations.{Programs}
 use Rattle.task_laws.specs.translation.OldTexts.{Asked, OldBody, old_body, old_no_stmt, old_no_handler}
-use Rattle.normal_structure.proofs.entries.Entries.{g}
-use Rattle.normal_runs.specs.runs.Premises.{programs_of}
-use Rattle.normal_runs.specs.forms.Normalisable.{numbers_of, normal_rewrite}
+use Rattle.normal_laws.proofs.structure.entries.Entries.{g}
+use Rattle.normal_laws.specs.runs.runs.Premises.{programs_of}
+use Rattle.normal_laws.specs.runs.forms.Normalisable.{numbers_of, normal_rewrite}
 use Rattle.legal_programs.specs.sites.Met.{IsMet, IsCheckMet}
 use Rattle.legal_programs.specs.types.Typed.{IsTypedTask}
 use Rattle.legal_programs.proofs.rewritten_types.Refused.{declared_once}
 use Rattle.legal_programs.proofs.sites.Meeting.{all_met, all_check_met}
 use Rattle.legal_programs.proofs.types.MainScopes.{StandsWhole}
-use Rattle.normalisable.specs.Laws.{IsLegalOriginal}
-use Rattle.normalisable.specs.inner.Gives.{Known, Gives}
-use Rattle.normalisable.proofs.body_forms.Fields as fields
-use Rattle.normalisable.proofs.body_forms.Joined as joined
-use Rattle.normalisable.proofs.seen_tasks.Bodies.{PlaceSeen, first-seen, decls-step, main-seen, accept-seen, handling-seen, loop-seen}
-use Rattle.normalisable.proofs.seen_tasks.Finding.{no-place}
-use Rattle.normalisable.proofs.seen_tasks.Parts.{MainSeen}
-use Rattle.normalisable.proofs.seen_tasks.Tasks.{PartsKnown}
-use Rattle.normalisable.proofs.seen_tasks.Units.{objects-apart, BodyFound, nothing_found, body_found, bodies-found}
-use Rattle.normalisable.proofs.statement_forms.Callees.{callee-known}
-use Rattle.normalisable.proofs.statement_forms.Text.{IsKnownPlace, IsLocal, TextPremises, parts-known, text_rules}
-use Rattle.normalisable.proofs.walked_statements.Walk.{body-as-asked}
+use Rattle.normal_laws.specs.existence.Laws.{IsLegalOriginal}
+use Rattle.normal_laws.specs.existence.inner.Gives.{Known, Gives}
+use Rattle.normal_laws.proofs.existence.body_forms.Fields as fields
+use Rattle.normal_laws.proofs.existence.body_forms.Joined as joined
+use Rattle.normal_laws.proofs.existence.seen_tasks.Bodies.{PlaceSeen, first-seen, decls-step, main-seen, accept-seen, handling-seen, loop-seen}
+use Rattle.normal_laws.proofs.existence.seen_tasks.Finding.{no-place}
+use Rattle.normal_laws.proofs.existence.seen_tasks.Parts.{MainSeen}
+use Rattle.normal_laws.proofs.existence.seen_tasks.Tasks.{PartsKnown}
+use Rattle.normal_laws.proofs.existence.seen_tasks.Units.{objects-apart, BodyFound, nothing_found, body_found, bodies-found}
+use Rattle.normal_laws.proofs.existence.statement_forms.Callees.{callee-known}
+use Rattle.normal_laws.proofs.existence.statement_forms.Text.{IsKnownPlace, IsLocal, TextPremises, parts-known, text_rules}
+use Rattle.normal_laws.proofs.existence.walked_statements.Walk.{body-as-asked}
 use Rattle.known_offers.specs.inner.Stated.{IsKnownCall, IsKnownCallee}
 use Rattle.known_offers.proofs.Places.{callee-is-known, call-is-known}
 

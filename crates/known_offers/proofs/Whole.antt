@@ -28,8 +28,8 @@ use Rattle.task_model.specs.Tasks.{Task}
 use Rattle.task_model.proofs.Following.{opens}
 use Rattle.task_laws.proofs.invariants.Beginning.{first, length_first, first_is}
 use Rattle.task_laws.proofs.statements.Carried.{starts-so}
-use Rattle.normal_runs.specs.forms.Normalisable.{numbers_of}
-use Rattle.normalisable.specs.Laws.{IsLegalOriginal}
+use Rattle.normal_laws.specs.runs.forms.Normalisable.{numbers_of}
+use Rattle.normal_laws.specs.existence.Laws.{IsLegalOriginal}
 use Rattle.replay_runs.proofs.controls.meanings.Numbered.{has_stepped, has_accepted, has_finished, has_resumed, has_took_else, has_took_delay, has_passed}
 use Rattle.replay_runs.proofs.controls.meanings.Reading.{AllKeep, all_keep}
 use Rattle.race_variant.specs.KnownOffers.{is_known_offer}

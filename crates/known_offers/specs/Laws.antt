@@ -2,8 +2,8 @@
 use Rattle.std.specs.Prelude.{ℤ, List}
 use Rattle.ada_tree.specs.PlainProgram.{PProgram}
 use Rattle.ada_static_rules.specs.Refusals.{types_in}
-use Rattle.normal_runs.specs.forms.Normalisable.{numbers_of}
-use Rattle.normalisable.specs.Laws.{IsLegalOriginal}
+use Rattle.normal_laws.specs.runs.forms.Normalisable.{numbers_of}
+use Rattle.normal_laws.specs.existence.Laws.{IsLegalOriginal}
 use Rattle.race_variant.specs.KnownOffers.{OffersAreKnown}
 
 -- Whatever has happened, and whatever the inputs: each task of a legal original offers calls of members that there are, delays by numbers of alternatives,

@@ -14,3 +14,4 @@ pub mod Whole
 pub mod Going
 pub mod Knowing
 pub mod Continued
+pub mod Existing

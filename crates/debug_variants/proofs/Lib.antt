@@ -1,0 +1,5 @@
+mod Placed
+mod Places
+mod Verdicts
+mod Files
+pub mod OneOutcome

@@ -1,0 +1,3 @@
+pub mod VariantsOutcomes
+pub mod ContinueOutcomes
+pub mod inner
