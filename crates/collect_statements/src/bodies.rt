@@ -9,7 +9,8 @@ ghost use Rattle.collect_statements.specs.Rules.{has_handlers};
 ghost use Rattle.collect_statements.specs.Looked.{teller_of};
 
 use crate::Reporter;
-use crate::noting::{AT_END, own_note};
+use crate::kinds::AT_END;
+use crate::noting::own_note;
 use crate::rewriting::{Collecting, Nothing};
 use ada_stmt_copy::building::{block_of, body_of};
 use ada_tree::{Body, Handler, Memory, Span, Stmt};

@@ -3,6 +3,7 @@
 
 mod bodies;
 mod calling;
+pub mod kinds;
 mod noting;
 mod parts;
 mod reporter;
@@ -13,4 +14,4 @@ mod waiting;
 pub use bodies::{collect_main, collect_task};
 pub use calling::task_of;
 pub use reporter::{Reporter, Tables};
-pub use serving::formals_telling;
+pub use serving::{formals_telling, one_word};

@@ -16,25 +16,6 @@ use tree_rewriting::making::{
     args_of, calling_of, integer_expr, keep_exprs, name_expr, push_expr, some_args,
 };
 
-/// The kinds of notes: a task is before a call; its call has been accepted; it is at the end of an accept body; it has taken the else part or a delay alternative of its wait; it has taken the else part or the delay alternative of its call; TASKING_ERROR has been raised at its call; it is at its end.
-pub(crate) const BEFORE_CALL: u32 = 0;
-
-pub(crate) const HAS_BEGUN: u32 = 1;
-
-pub(crate) const AT_FINISH: u32 = 2;
-
-pub(crate) const HAS_ELSE: u32 = 3;
-
-pub(crate) const HAS_DELAY: u32 = 4;
-
-pub(crate) const HAS_CALL_ELSE: u32 = 5;
-
-pub(crate) const HAS_EXPIRED: u32 = 6;
-
-pub(crate) const HAS_FAILED: u32 = 7;
-
-pub(crate) const AT_END: u32 = 8;
-
 // Two steps that went well.
 fn both_done(first: Result<(), Memory>, second: Result<(), Memory>) -> Result<(), Memory>
     ensures { OnOk result (OkWith first (λ _. OkWith second (λ _. Unit {0}))) }

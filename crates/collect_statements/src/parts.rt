@@ -10,7 +10,8 @@ ghost use Rattle.collect_statements.specs.Looked.{teller_of};
 
 use crate::Reporter;
 use crate::calling::{call_note, call_telling};
-use crate::noting::{BEFORE_CALL, HAS_CALL_ELSE, HAS_EXPIRED, HAS_FAILED, own_note};
+use crate::kinds::{BEFORE_CALL, HAS_CALL_ELSE, HAS_EXPIRED, HAS_FAILED};
+use crate::noting::own_note;
 use ada_stmt_copy::building::{block_of, body_of, call_of, conditional_of, timed_of};
 use ada_tree::{BinaryOp, Call, Memory, NameId, Span, Stmt};
 use normal_lookups::pieces::fill_empty;

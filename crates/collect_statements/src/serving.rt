@@ -8,7 +8,8 @@ ghost use Rattle.collect_statements.specs.Looked.{teller_of};
 
 use crate::Reporter;
 use crate::calling::{entry_of, member_number};
-use crate::noting::{AT_FINISH, HAS_BEGUN, note, own_note};
+use crate::kinds::{AT_FINISH, HAS_BEGUN};
+use crate::noting::{note, own_note};
 use crate::parts::raising;
 use ada_stmt_copy::building::{accepting_of, block_of, body_of};
 use ada_stmt_copy::expressions::{ExprCopy, copy_option};
@@ -21,8 +22,8 @@ use tree_rewriting::making::{
     keep_formals, name_expr, one_stmt, push_formal, some_stmts, take_maybe,
 };
 
-// A list of one word.
-fn one_word(alloc: Global, part: Word) -> Result<Vec<Word>, Memory>
+/// A list of one word.
+pub fn one_word(alloc: Global, part: Word) -> Result<Vec<Word>, Memory>
     ensures { IfOk result (λ made. made.items ≡ part ∷ []) }
 {
     let mut words = Vec::new(alloc);

@@ -8,7 +8,8 @@ ghost use Rattle.collect_statements.specs.Waited.{alternative_list};
 ghost use Rattle.collect_statements.specs.Looked.{teller_of};
 
 use crate::Reporter;
-use crate::noting::{HAS_DELAY, HAS_ELSE, own_note};
+use crate::kinds::{HAS_DELAY, HAS_ELSE};
+use crate::noting::own_note;
 use crate::serving::accept_told;
 use ada_stmt_copy::building::{
     accept_alternative_of, delay_alternative_of, terminate_alternative_of, wait_of,

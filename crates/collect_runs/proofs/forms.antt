@@ -1,0 +1,10 @@
+pub mod Forming
+pub mod Tables
+pub mod Finding
+pub mod Formals
+pub mod Old
+pub mod Objects
+pub mod Bodies
+pub mod Units
+pub mod Starting
+pub mod Collecting

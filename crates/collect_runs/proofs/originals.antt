@@ -1,0 +1,4 @@
+pub mod Carried
+pub mod Headers
+pub mod Programs
+pub mod Example

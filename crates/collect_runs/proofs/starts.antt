@@ -1,0 +1,9 @@
+pub mod Silent
+pub mod Worlds
+pub mod Offering
+pub mod Owning
+pub mod NoAborts
+pub mod Legal
+pub mod Once
+pub mod FlagsType
+pub mod Recorder

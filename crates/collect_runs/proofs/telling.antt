@@ -1,0 +1,11 @@
+pub mod Standing
+pub mod Noting
+pub mod Hearing
+pub mod Pairs
+pub mod Ending
+pub mod Copying
+pub mod Calling
+pub mod Opening
+pub mod Choosing
+pub mod Waiting
+pub mod Acting

@@ -1,0 +1,194 @@
+-- A note: the task offers a call of NOTE with its numbers, and as it is answered it goes on with the answer in its variable.
+use Rattle.std.proofs.Common.{◌≡◌, ℕ, ℤ, pos, Bool, true, false, if◌then◌else◌, List, [], ◌∷◌, Some, None, Ok, Err, refl, sym, ap, subst, ◌∙◌}
+use Rattle.event_machine.specs.declared.CallForm.TheVariants.{Plain}
+use Rattle.ada_tree.specs.declared.naming.NameId.{NameId}
+use Rattle.ada_tree.specs.declared.naming.Span.{Span}
+use Rattle.ada_tree.specs.declared.statements.ParMode.TheVariants.{Take, Give}
+use Rattle.ada_tree.specs.TypeTable.{TypeTable}
+use Rattle.ada_tree.specs.PlainExpr.{PExpr, EInteger, EName}
+use Rattle.ada_tree.specs.PlainStmt.{PArgs, PCall, PStmts, stmt_then}
+use Rattle.ada_static_rules.specs.StaticValue.{is_integer_value}
+use Rattle.ada_value.specs.declared.values.Value.{Value}
+use Rattle.ada_value.specs.declared.values.Value.TheVariants.{Number, Truth}
+use Rattle.ada_value.specs.declared.values.Raised.TheVariants as raised
+use Rattle.ada_value.specs.Values.{and_then, checked, lower_bound, limits_named, truth_limits}
+use Rattle.ada_value.specs.Variables.{Variables, checked_for, set_value}
+use Rattle.ada_value.specs.Evaluating.{evaluated}
+use Rattle.task_model.specs.declared.parameters.FormalParameter.{FormalParameter}
+use Rattle.task_model.specs.Setting.{Setting, entry_of, entry_parameters, lists_in, lists_of, parameters_of}
+use Rattle.task_model.specs.Frames.{Around, PFrame, control, settled}
+use Rattle.task_model.specs.Tasks.{Task}
+use Rattle.task_model.specs.Calls.{called, called_with, opening_values, openings, Copies, copies_on, copied_back}
+use Rattle.task_model.specs.Stands.{call_stand, steps_at, offered}
+use Rattle.task_model.specs.Rendezvous.{resumed, resumed_with, returned, come_back, copies_of, call_ended, pending_of, finals_of}
+use Rattle.task_laws.specs.translation.Controls.{task_in}
+use Rattle.normal_model.specs.Ranges.{word_at}
+use Rattle.normal_laws.specs.runs.floors.Preludes.{Reaches, reaches_here}
+use Rattle.normal_laws.proofs.runs.callees.Choosing.{reaches-behind}
+use Rattle.run_laws.specs.collecting.Notes.{Note}
+use Rattle.collect_model.specs.declared.AddedNames.{AddedNames}
+use Rattle.collect_model.specs.Noting.{note_actuals, note}
+use Rattle.collect_model.specs.Recording.{note_formals}
+use Rattle.collect_runs.specs.translation.Floors.{HasVariables}
+use Rattle.collect_runs.specs.recorder.Telling.{Spelled, spelled, note_values}
+use Rattle.collect_runs.specs.telling.Texts.{Texts, text, teller, IsInteger, CanTell}
+use Rattle.collect_runs.specs.telling.Forms.{Form}
+use Rattle.collect_runs.specs.telling.Meetings.{ComesTo, IsNoting}
+
+-- ---- coming
+
+pub here : {IsSo : Task → Type 0} (κ : Task) → IsSo κ → ComesTo IsSo κ
+here κ is = record { reached = κ; reach = reaches_here κ; is = is }
+
+pub later : {IsSo : Task → Type 0} {κ κ' : Task} → Reaches κ κ' → ComesTo IsSo κ' → ComesTo IsSo κ
+later way c = record { reached = c.reached; reach = reaches-behind way c.reach; is = c.is }
+
+pub comes-as : {Is Was : Task → Type 0} → ((κ : Task) → Was κ → Is κ) → {κ : Task} → ComesTo Was κ → ComesTo Is κ
+comes-as f c = record { reached = c.reached; reach = c.reach; is = f c.reached c.is }
+
+-- ---- literals
+
+pub literal : (T : TypeTable) (V : Variables) (n : ℕ) (s : Span) → IsInteger n → evaluated T V (EInteger n s) ≡ Ok (Number (pos n))
+literal T V n s fits = ap (λ c. if c then Ok (Number (pos n)) else Err raised.Numeric) fits
+
+-- the variables with the answer
+abbrev pub hearing : Texts → Bool → Variables → Variables
+hearing x b V = set_value V x.main.added.answer 0 (Truth b)
+
+module _ (x : Texts) (can : CanTell x) (t : ℕ) where
+  abbrev g : Setting
+  g = text x
+
+  abbrev T : TypeTable
+  T = (text x).types
+
+  abbrev n : AddedNames
+  n = x.main.added
+
+  -- the image of the task t where it stands so
+  abbrev pub at : List ℤ → List ℕ → PStmts → Around → List PFrame → Variables → Task
+  at i w r q o V = task_in (text x) t i w (control r q o V)
+
+  -- and as it goes on with them
+  abbrev pub going : List ℤ → List ℕ → PStmts → Around → List PFrame → Variables → Task
+  going i w r q o V = task_in (text x) t i w (settled (control r q o V))
+
+  -- What a note is about: two expressions that come to a task and to a member.
+  pub record Evaluates (V : Variables) (te ie : PExpr) (n : ℕ) (z : ℤ) : Type 0 where
+    pub subject : evaluated (text x).types V te ≡ Ok (Number (pos n))
+    pub subject_fits : IsInteger n
+    pub index : evaluated (text x).types V ie ≡ Ok (Number z)
+    pub index_fits : is_integer_value z ≡ true
+
+  -- one formal of mode `in`
+  pub taken : (V : Variables) (name : NameId) (e : PExpr) (z : ℤ) (fs : List FormalParameter) (es : List PExpr) (vs : List Value) → evaluated T V e ≡ Ok (Number z) → is_integer_value z ≡ true → openings T V fs es ≡ Ok vs →
+      openings T V (record { name = name; mode = Take; limits = limits_named T record { 0 = 0 } } ∷ fs) (e ∷ es) ≡ Ok (Number z ∷ vs)
+  taken V name e z fs es vs worth fits rest =
+      ap (λ r. and_then (and_then r (λ v. checked (limits_named T record { 0 = 0 }) v)) (λ v. and_then (openings T V fs es) (λ us. Ok (v ∷ us)))) worth
+      ∙ ap (λ l. and_then (checked l (Number z)) (λ v. and_then (openings T V fs es) (λ us. Ok (v ∷ us)))) can.integer
+      ∙ ap (λ c. and_then (if c then Ok (Number z) else Err raised.Constraint) (λ v. and_then (openings T V fs es) (λ us. Ok (v ∷ us)))) fits
+      ∙ ap (λ r. and_then r (λ us. Ok (Number z ∷ us))) rest
+
+  module _ (V : Variables) (s : Span) (k : ℕ) (te : PExpr) (a : ℕ) (ie : PExpr) (o subject : ℕ) (index : ℤ) (kind_fits : IsInteger k) (argument_fits : IsInteger a) (owner_fits : IsInteger o)
+      (is : Evaluates V te ie subject index) where
+    abbrev actuals : List PExpr
+    actuals = note_actuals (teller x t) s k te a ie o
+
+    abbrev lists : PArgs
+    lists = record { first = actuals; second = None }
+
+    abbrev call : PCall
+    call = record { task = record { name = word_at s n.recorder; index = None }; entry = word_at s n.note; args = Some lists }
+
+    abbrev values : List Value
+    values = Number (pos k) ∷ Number (pos subject) ∷ Number (pos a) ∷ Number index ∷ Number (pos o) ∷ lower_bound T (limits_named T record { 0 = 3 }) ∷ []
+
+    -- the formals of NOTE from each of the first five on
+    abbrev formal : NameId → FormalParameter
+    formal name = record { name = name; mode = Take; limits = limits_named T record { 0 = 0 } }
+
+    abbrev f5 : List FormalParameter
+    f5 = record { name = n.reply; mode = Give; limits = limits_named T record { 0 = 3 } } ∷ []
+
+    abbrev f4 : List FormalParameter
+    f4 = formal n.owner ∷ f5
+
+    abbrev f3 : List FormalParameter
+    f3 = formal n.index ∷ f4
+
+    abbrev f2 : List FormalParameter
+    f2 = formal n.argument ∷ f3
+
+    abbrev f1 : List FormalParameter
+    f1 = formal n.subject ∷ f2
+
+    -- and the actuals
+    abbrev e5 : List PExpr
+    e5 = EName n.answer s ∷ []
+
+    abbrev e4 : List PExpr
+    e4 = EInteger o s ∷ e5
+
+    abbrev e3 : List PExpr
+    e3 = ie ∷ e4
+
+    abbrev e2 : List PExpr
+    e2 = EInteger a s ∷ e3
+
+    abbrev e1 : List PExpr
+    e1 = te ∷ e2
+
+    opens : openings T V (parameters_of T (note_formals n can.span)) actuals ≡ Ok values
+    opens =
+        taken V n.kind (EInteger k s) (pos k) f1 e1 _ (literal T V k s kind_fits) kind_fits
+        (taken V n.subject te (pos subject) f2 e2 _ is.subject is.subject_fits
+        (taken V n.argument (EInteger a s) (pos a) f3 e3 _ (literal T V a s argument_fits) argument_fits
+        (taken V n.index ie index f4 e4 _ is.index is.index_fits
+        (taken V n.owner (EInteger o s) (pos o) f5 e5 _ (literal T V o s owner_fits) owner_fits refl))))
+
+    -- what the call comes to
+    pub note-called : called g V call ≡ Ok record { entry = x.note; index = pos 0; values = values }
+    note-called =
+        ap (λ m. called_with g V (entry_of g.numbers m n.note) (lists_of g.numbers (entry_of g.numbers m n.note) (Some lists))) can.recorder
+        ∙ ap (λ e. called_with g V e (lists_of g.numbers e (Some lists))) can.note
+        ∙ ap (λ c. called_with g V x.note (lists_in c lists)) can.single
+        ∙ ap (λ fs. and_then (openings T V fs actuals) (λ vs. Ok record { entry = x.note; index = pos 0; values = vs })) can.formals
+        ∙ ap (λ r. and_then r (λ vs. Ok record { entry = x.note; index = pos 0; values = vs })) opens
+
+    module _ (there : HasVariables n V) (i : List ℤ) (w : List ℕ) (rest : PStmts) (q : Around) (out : List PFrame) where
+      -- the task before the note
+      abbrev κ : Task
+      κ = at i w (stmt_then (note (teller x t) s k te a ie o) rest) q out V
+
+      fits-truth : (b : Bool) → checked truth_limits (Truth b) ≡ Ok (Truth b)
+      fits-truth true = refl
+      fits-truth false = refl
+
+      copies-are : (b : Bool) → copies_of κ (Truth b ∷ []) ≡ record { vars = hearing x b V; stopped = None }
+      copies-are b =
+          ap (λ r. call_ended κ call r (Truth b ∷ [])) note-called
+          ∙ ap (λ c. copied_back (entry_parameters g x.note) (lists_in c lists).actuals (Truth b ∷ []) V) can.single
+          ∙ ap (λ fs. copied_back fs actuals (Truth b ∷ []) V) can.formals
+          ∙ ap (λ y. copies_on (λ changed. record { vars = changed; stopped = None }) V (and_then (checked_for y (Truth b)) (λ v. Ok (set_value V n.answer 0 v)))) there.answer.1.found
+          ∙ ap (λ r. copies_on (λ changed. record { vars = changed; stopped = None }) V (and_then r (λ v. Ok (set_value V n.answer 0 v)))) (fits-truth b)
+
+      goes-on : (b : Bool) (j : Task) → pending_of j ≡ None → finals_of j ≡ Truth b ∷ [] → resumed j κ ≡ going i w rest q out (hearing x b V)
+      goes-on b j pending finals =
+          ap (λ e. resumed_with e (finals_of j) κ) pending ∙ ap (λ vs. returned vs κ) finals ∙ ap (λ (c : Copies). come_back κ c c.stopped) (copies-are b)
+
+      -- So it tells this note, and comes to where it is to come to with each answer.
+      pub notes : (f : Form x) (said : Note) (other : ℕ) (IsSo : Bool → Task → Type 0) →
+          spelled said other ≡ record { kind = k; subject = subject; argument = a; index = index; owner = o } →
+          ((b : Bool) → ComesTo (IsSo b) (going i w rest q out (hearing x b V))) → IsNoting f said IsSo κ
+      notes f said other IsSo spells comes = record {
+        offers = record {
+          rests = ap (λ r. steps_at (call_stand Plain r)) note-called;
+          offers = ap (λ r. offered (call_stand Plain r)) note-called;
+        };
+        tells = record {
+          other = other;
+          opens_with = lower_bound T (limits_named T record { 0 = 3 });
+          values = ap (λ r. opening_values (Some r)) note-called ∙ sym (ap (λ (z : Spelled). note_values z (lower_bound T (limits_named T record { 0 = 3 }))) spells);
+        };
+        answered = λ b j pending finals. subst (ComesTo (IsSo b)) (sym (goes-on b j pending finals)) (comes b);
+      }

@@ -1,0 +1,1 @@
+//! The tasks of a collecting text do what the law of collecting asks.

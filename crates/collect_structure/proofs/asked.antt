@@ -1,0 +1,4 @@
+pub mod Kept
+pub mod Telling
+pub mod Walk
+pub mod Recorder

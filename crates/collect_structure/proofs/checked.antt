@@ -1,0 +1,13 @@
+pub mod Names
+pub mod Scopes
+pub mod Stays
+pub mod Alike
+pub mod Plain
+pub mod Waits
+pub mod Tasks
+pub mod Bodies
+pub mod Before
+pub mod Asked
+pub mod Recorded
+pub mod Along
+pub mod Whole

@@ -1,0 +1,6 @@
+pub mod Statements
+pub mod Ids
+pub mod Units
+pub mod Whole
+pub mod Legal
+pub mod Examples

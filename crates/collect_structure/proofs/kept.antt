@@ -1,0 +1,4 @@
+pub mod Names
+pub mod Main
+pub mod Subtypes
+pub mod Declared

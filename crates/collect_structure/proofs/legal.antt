@@ -1,0 +1,4 @@
+pub mod Checkable
+pub mod Values
+pub mod Placed
+pub mod Legal

@@ -1,0 +1,5 @@
+pub mod Named
+pub mod Made
+pub mod Header
+pub mod Recorded
+pub mod Declared

@@ -1,0 +1,96 @@
+-- The names of a collecting text are such as the source can hold.
+use Rattle.std.proofs.Common.{ℕ, ◌<◌, ◌==◌, Bool, true, false, cond, List, [], ◌∷◌, Option, Some, None, IfSome, find, unwrap_or, refl, arith}
+use Rattle.std.specs.List.{AllByRecursion}
+use Rattle.ada_tree.specs.declared.naming.NameId.{NameId}
+use Rattle.ada_tree.specs.declared.static_types.Mark.{Mark}
+use Rattle.ada_tree.specs.Lexical.{IsIdentifier}
+use Rattle.ada_static_rules.specs.Scope.{and_then}
+use Rattle.task_model.specs.Setting.{Setting}
+use Rattle.normal_model.specs.Names.{id_of}
+use Rattle.normal_model.specs.Ranges.{kind_name}
+use Rattle.normal_laws.specs.structure.placed.Placeable.{IsName}
+use Rattle.normal_laws.proofs.structure.placed.Names.{begins-name, searched}
+use Rattle.replay_structure.specs.placed.Placeable.{IsReplayPlaceable}
+use Rattle.collect_model.specs.declared.AddedNames.{AddedNames}
+use Rattle.collect_model.specs.Names.{int_io_text, flags_text, caller_text, answer_text, part_text, recorder_text, note_text, kind_text, subject_text, argument_text, index_text, owner_text, reply_text, gone_text, met_text, collect_names, added_in}
+use Rattle.collect_structure.proofs.texts.Rooted.{collect-begins}
+
+-- What is known of the names of a collecting text.
+pub record AreAdded (g : Setting) (names : List (List ℕ)) (n : AddedNames) : Type 0 where
+  pub first : (k : ℕ) → k < 25 → IsName names (record { 0 = k })
+  pub int_io : IsName names n.int_io
+  pub flags : IsName names n.flags
+  pub caller : IsName names n.caller
+  pub answer : IsName names n.answer
+  pub part : IsName names n.part
+  pub recorder : IsName names n.recorder
+  pub note : IsName names n.note
+  pub kind : IsName names n.kind
+  pub subject : IsName names n.subject
+  pub argument : IsName names n.argument
+  pub index : IsName names n.index
+  pub owner : IsName names n.owner
+  pub reply : IsName names n.reply
+  pub gone : IsName names n.gone
+  pub met : IsName names n.met
+  pub kinds : (k : ℕ) → IsName names (kind_name g.types k)
+
+-- the name of a kind is that of its first mark, or INTEGER
+mark-named : (names : List (List ℕ)) (k : ℕ) (ms : List Mark) → IsName names (record { 0 = 0 }) → AllByRecursion (λ m. IfSome m.name (IsName names)) ms → IsName names (unwrap_or (and_then (λ m. m.name) (find (λ m. m.kind == k) ms)) (record { 0 = 0 }))
+mark-named names k [] first h = first
+mark-named names k (m ∷ ms) first h = by_test (m.kind == k) (mark-named names k ms first h.1)
+  where
+    named : (o : Option NameId) → IfSome o (IsName names) → IsName names (unwrap_or o (record { 0 = 0 }))
+    named None i = first
+    named (Some id) i = i
+
+    by_test : (b : Bool) → IsName names (unwrap_or (and_then (λ m. m.name) (find (λ m. m.kind == k) ms)) (record { 0 = 0 })) →
+        IsName names (unwrap_or (and_then (λ m. m.name) (cond b (Some m) (find (λ m. m.kind == k) ms))) (record { 0 = 0 }))
+    by_test true rest = named m.name h.0
+    by_test false rest = rest
+
+module _ (g : Setting) (h : IsReplayPlaceable g) where
+  abbrev names : List (List ℕ)
+  names = g.program.names
+
+  abbrev pub names' : List (List ℕ)
+  names' = collect_names g.program
+
+  -- the names of the normal form stay
+  pub old : (id : NameId) → IsName names id → IsName names' id
+  old id i = begins-name names names' (collect-begins g.program) id i
+
+  first : (k : ℕ) → k < 25 → IsName names' (record { 0 = k })
+  first k l = old (record { 0 = k }) (h.first k l)
+
+  there : (t : List ℕ) → IsIdentifier t → IsName names' (id_of names' t)
+  there t i = searched names' t (first 0 (omega arith)) i
+
+  pub are-added : AreAdded g names' (added_in names')
+  are-added = record {
+    first = first;
+    int_io = there int_io_text (refl, omega arith, refl);
+    flags = there flags_text (refl, omega arith, refl);
+    caller = there caller_text (refl, omega arith, refl);
+    answer = there answer_text (refl, omega arith, refl);
+    part = there part_text (refl, omega arith, refl);
+    recorder = there recorder_text (refl, omega arith, refl);
+    note = there note_text (refl, omega arith, refl);
+    kind = there kind_text (refl, omega arith, refl);
+    subject = there subject_text (refl, omega arith, refl);
+    argument = there argument_text (refl, omega arith, refl);
+    index = there index_text (refl, omega arith, refl);
+    owner = there owner_text (refl, omega arith, refl);
+    reply = there reply_text (refl, omega arith, refl);
+    gone = there gone_text (refl, omega arith, refl);
+    met = there met_text (refl, omega arith, refl);
+    kinds = λ k. mark-named names' k g.types.marks (first 0 (omega arith)) (marks g.types.marks h.marks);
+  }
+    where
+      named : (o : Option NameId) → IfSome o (IsName names) → IfSome o (IsName names')
+      named None i = tt
+      named (Some id) i = old id i
+
+      marks : (ms : List Mark) → AllByRecursion (λ m. IfSome m.name (IsName names)) ms → AllByRecursion (λ m. IfSome m.name (IsName names')) ms
+      marks [] i = tt
+      marks (m ∷ ms) i = (named m.name i.0, marks ms i.1)

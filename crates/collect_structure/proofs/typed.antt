@@ -1,0 +1,9 @@
+pub mod Demands
+pub mod Stays
+pub mod Lists
+pub mod Notes
+pub mod Calls
+pub mod Accepts
+pub mod Scopes
+pub mod Inside
+pub mod Typed

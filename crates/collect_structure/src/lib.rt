@@ -1,0 +1,20 @@
+//! What a collecting text has in common with the normal form that it is made from, part by part, and what is so of the collecting text of each legal program.
+#![tactic(auto)]
+
+pub mod asked;
+pub mod checked;
+pub mod declares_once;
+pub mod placed;
+pub mod texts;
+
+ghost use Rattle.collect_structure.specs.Laws.{CollectHasNumbers, CollectIsPlaced, CollectMeetsChecks, IsMet};
+
+/// Carries the laws of the collecting text of each legal program, whether abort statements stand in the program or not. It is well placed
+/// (`placed`), so that it can be printed, and has the numbers of the definition (`numbered`). It meets the rules 13 to 23 as a text of any kind
+/// (`checks`). Two programs are legal ones (`met`).
+pub fn laws()
+    ensures placed { CollectIsPlaced }
+    ensures numbered { CollectHasNumbers }
+    ensures checks { CollectMeetsChecks }
+    ensures met { IsMet }
+{}

@@ -1,0 +1,4 @@
+pub mod Finding
+pub mod Named
+pub mod Told
+pub mod Made

@@ -1,0 +1,3 @@
+pub mod Placed
+pub mod Put
+pub mod Steps

@@ -1,0 +1,12 @@
+use Rattle.std.proofs.Common.{◌≡◌, map, take}
+use Rattle.ada_tree.specs.PlainDecl.{plain_decl}
+use Rattle.collect_model.specs.CollectTree.{collect_decl}
+use Rattle.collect_statements.specs.Looked.{teller_of}
+use Rattle.normal_parts.proofs.Turning.{Left}
+use Rattle.collect_xform.proofs.units.units.collect_all.Given as goal
+
+abbrev pub invariant-loop-decl : goal.invariant-loop-decl
+invariant-loop-decl l = record {
+  done : map plain_decl (take l.decl-index l.decl-items) ≡ map (collect_decl (teller_of l.x) l.names) (map plain_decl (take l.decl-index l.initial.decl-items));
+  left : Left l.decl-index l.decl-items l.initial.decl-items;
+}

@@ -1,0 +1,4 @@
+pub mod Keeping
+pub mod OneCollecting
+pub mod Files
+pub mod Carrying

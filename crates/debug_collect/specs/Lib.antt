@@ -1,0 +1,3 @@
+pub mod CollectOutcomes
+pub mod Recorded
+pub mod inner

@@ -1,0 +1,68 @@
+-- The sequence that a run of a collecting text records, as a file (this project's rules).
+use Rattle.std.specs.Prelude.{◌≡◌, ℕ, ℤ, ◌+◌, List, [], codes, drop, None, ◌⊎◌}
+use Rattle.ded_io.specs.Written.{◌⧺◌, each_text}
+use Rattle.ada_tree.specs.PlainProgram.{PProgram}
+use Rattle.ada_tree.specs.TypeTable.{TypeTable}
+use Rattle.ada_static_rules.specs.Refusals.{types_in}
+use Rattle.syn_event.specs.Numbering.{Numbering}
+use Rattle.seq_file.specs.Files.{header_line}
+use Rattle.syn_event.specs.AllNumbers.{all_numbers}
+use Rattle.task_model.specs.Machine.{MachineState, opening_of}
+use Rattle.task_model.specs.declared.picked_runs.report.RunEnd.{RunEnd}
+use Rattle.task_model.specs.declared.picked_runs.report.RunEnd.TheVariants.{Ended, Stuck, Turns}
+use Rattle.task_model.specs.picked_runs.Outputs.{output_of}
+use Rattle.task_model.specs.picked_runs.Picked.{Position, picked, run_end}
+use Rattle.replay_model.specs.ReplayTree.{last_task}
+use Rattle.collect_model.specs.CollectTree.{collect_tree}
+use Rattle.collect_model.specs.FirstAbort.{first_abort}
+use Rattle.debug_run.specs.RunOutcomes.{run_status}
+use Rattle.debug_run.specs.texts.OutputText.{finished_lines}
+use Rattle.debug_outcome.specs.Outcomes.{Outcome, writes}
+use Rattle.debug_collect.specs.CollectOutcomes.{IsAborting}
+
+-- ---- the file
+
+-- a line with the line feed that ends it
+abbrev pub ended_line : List ℕ → List ℕ
+ended_line line = line ⧺ codes "\n"
+
+-- the lines of events that the recorder has finished: the first of its lines is the header
+abbrev pub event_lines : List ℕ → List (List ℕ)
+event_lines output = drop 1 (finished_lines output)
+
+-- the line of the event Z, where the run has ended
+abbrev pub end_line : RunEnd → List ℕ
+end_line Ended = codes "Z\n"
+end_line Stuck = []
+end_line Turns = []
+
+-- The sequence file of a program with these names and numbers by what the recorder has written: the header, each line of an event that is finished, and Z exactly where the run has ended. The header stands there too where the recorder has not come to write it.
+abbrev pub recorded_text : List (List ℕ) → Numbering → List ℕ → RunEnd → List ℕ
+recorded_text names numbers output end = header_line names numbers ⧺ (each_text ended_line (event_lines output) ⧺ end_line end)
+
+-- ---- the run
+
+-- the number of the recorder, which is the task behind those of the program
+abbrev pub recorder_of : Numbering → ℕ
+recorder_of numbers = last_task numbers + 1
+
+-- a text with its own types and numbers, at its start
+abbrev pub opening : PProgram → List (List ℤ) → MachineState
+opening text inputs = opening_of (record { program = text; types = types_in text; inputs = inputs }) (all_numbers (types_in text) text)
+
+-- where the run of the collecting text of a program with these types and numbers stands that these choices pick, of at most so many turns; its tasks read what those of the program read
+abbrev pub recording : {C : Type 0} → (C → ℕ) → (C → C) → PProgram → TypeTable → Numbering → List (List ℤ) → C → ℕ → Position C
+recording word next p types numbers inputs choices turns = picked word next turns (opening (collect_tree p types numbers) inputs) choices
+
+-- the file of a run that stands here as its turns are spent
+abbrev pub file_at : {C : Type 0} → List (List ℕ) → Numbering → Position C → List ℕ
+file_at names numbers at = recorded_text names numbers (output_of at.machine (recorder_of numbers)) (run_end at)
+
+-- No abort statement stands in the program, and the outcome is the file of that run, with the status of its end.
+pub record IsRecorded {C : Type 0} (word : C → ℕ) (next : C → C) (p : PProgram) (types : TypeTable) (numbers : Numbering) (inputs : List (List ℤ)) (choices : C) (turns : ℕ) (o : Outcome) : Type 0 where
+  pub none : first_abort p ≡ None
+  pub is : o ≡ writes (file_at p.names numbers (recording word next p types numbers inputs choices turns)) (run_status (run_end (recording word next p types numbers inputs choices turns)))
+
+-- The program that was read from these bytes calls for this outcome when its collecting text is run.
+abbrev pub RecordsProgram : {C : Type 0} → (C → ℕ) → (C → C) → PProgram → TypeTable → Numbering → List ℕ → List (List ℤ) → C → ℕ → Outcome → Type 0
+RecordsProgram word next p types numbers bytes inputs choices turns o = IsRecorded word next p types numbers inputs choices turns o ⊎ IsAborting p bytes o

@@ -1,0 +1,5 @@
+pub mod Placed
+pub mod Turning
+pub mod Putting
+pub mod Entries
+pub mod Told
