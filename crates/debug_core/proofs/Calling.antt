@@ -2,7 +2,7 @@
 use Rattle.std.proofs.Common.{◌≡◌, ℕ, List, [], ◌∷◌, ◌++◌, Option, Some, None, is_some, option_map, Result, Err, inl, inr, refl, sym, subst, true≢false}
 use Rattle.std.specs.Prelude.{option_to_list}
 use Rattle.ded_io.specs.Told.{ToldFile}
-use Rattle.debug_outcome.specs.words.Words.{Asked, AsksRun, AsksJudge, ChoiceSource, NoChoices, ChoicesIn, ChoicesBy}
+use Rattle.debug_outcome.specs.words.Words.{Asked, AsksRun, AsksJudge, AsksVariants, AsksContinue, ChoiceSource, NoChoices, ChoicesIn, ChoicesBy}
 use Rattle.debug_outcome.specs.declared.words.command.NoWords.{NoWords}
 use Rattle.debug_outcome.specs.declared.words.command.NoWords.TheVariants.{NotText, Memory}
 use Rattle.debug_outcome.specs.Coming.{Never, Stops, Comes}
@@ -17,8 +17,10 @@ use Rattle.debug_outcome.proofs.Comings.{stops_more, stops_come, comes_more, end
 use Rattle.debug_outcome.specs.files.Giving.{Given, IsGivenBy, given_bytes}
 use Rattle.debug_outcome.specs.files.Wanting.{wanted_by}
 use Rattle.debug_core.specs.Answers.{Means, CallsFor, GrowsFor, AnswersNoWords, TellsNoWords}
+use Rattle.debug_core.specs.ContinueMeaning.{ContinueMeans}
 use Rattle.debug_core.specs.JudgeMeaning.{JudgeMeans}
 use Rattle.debug_core.specs.RunMeaning.{RunMeans}
+use Rattle.debug_core.specs.VariantsMeaning.{VariantsMeans}
 
 -- ---- files that were loaded
 
@@ -91,6 +93,31 @@ judge_means name sequence text lines bound o (Some list) (Some bytes) there mean
 judge_means name sequence text lines bound o None (Some bytes) there means = absurd (true≢false there)
 judge_means name sequence text lines bound o (Some list) None there means = absurd (true≢false (sym there))
 
+variants_mean : (name sequence text lines : List ℕ) (bound : ℕ) (o : Outcome) (inputs bytes : Option (List ℕ)) → is_some bytes ≡ is_some inputs → VariantsMeans text bytes lines bound o →
+    Means (AsksVariants name inputs sequence bound) ((text ∷ option_to_list bytes) ++ (lines ∷ [])) o
+variants_mean name sequence text lines bound o None None there means = means
+variants_mean name sequence text lines bound o (Some list) (Some bytes) there means = means
+variants_mean name sequence text lines bound o None (Some bytes) there means = absurd (true≢false there)
+variants_mean name sequence text lines bound o (Some list) None there means = absurd (true≢false (sym there))
+
+module _ (name sequence text lines : List ℕ) (count bound : ℕ) (o : Outcome) where
+  continue_means : (inputs bytes : Option (List ℕ)) (source : ChoiceSource) (given : Given) → is_some bytes ≡ is_some inputs → IsGivenBy source given → ContinueMeans text bytes lines given count bound o →
+      Means (AsksContinue name inputs sequence source count bound) (((text ∷ option_to_list bytes) ++ (lines ∷ [])) ++ given_bytes given) o
+  continue_means None None NoChoices given there by means =
+      subst (λ (x : Given). Means (AsksContinue name None sequence NoChoices count bound) ((text ∷ lines ∷ []) ++ given_bytes x) o) (sym by) (subst (λ (x : Given). ContinueMeans text None lines x count bound o) by means)
+  continue_means None None (ChoicesIn file) given there by means =
+      subst (λ (x : Given). Means (AsksContinue name None sequence (ChoicesIn file) count bound) ((text ∷ lines ∷ []) ++ given_bytes x) o) (sym by.1) (subst (λ (x : Given). ContinueMeans text None lines x count bound o) by.1 means)
+  continue_means None None (ChoicesBy seed) given there by means =
+      subst (λ (x : Given). Means (AsksContinue name None sequence (ChoicesBy seed) count bound) ((text ∷ lines ∷ []) ++ given_bytes x) o) (sym by) (subst (λ (x : Given). ContinueMeans text None lines x count bound o) by means)
+  continue_means (Some list) (Some bytes) NoChoices given there by means =
+      subst (λ (x : Given). Means (AsksContinue name (Some list) sequence NoChoices count bound) ((text ∷ bytes ∷ lines ∷ []) ++ given_bytes x) o) (sym by) (subst (λ (x : Given). ContinueMeans text (Some bytes) lines x count bound o) by means)
+  continue_means (Some list) (Some bytes) (ChoicesIn file) given there by means =
+      subst (λ (x : Given). Means (AsksContinue name (Some list) sequence (ChoicesIn file) count bound) ((text ∷ bytes ∷ lines ∷ []) ++ given_bytes x) o) (sym by.1) (subst (λ (x : Given). ContinueMeans text (Some bytes) lines x count bound o) by.1 means)
+  continue_means (Some list) (Some bytes) (ChoicesBy seed) given there by means =
+      subst (λ (x : Given). Means (AsksContinue name (Some list) sequence (ChoicesBy seed) count bound) ((text ∷ bytes ∷ lines ∷ []) ++ given_bytes x) o) (sym by) (subst (λ (x : Given). ContinueMeans text (Some bytes) lines x count bound o) by means)
+  continue_means None (Some bytes) source given there by means = absurd (true≢false there)
+  continue_means (Some list) None source given there by means = absurd (true≢false (sym there))
+
 module _ {F : Type 0} (leads : F → Load → F → Type 0) (old new : F) (told : Option (List ToldFile)) (file_faults file_faults' : ℕ) (name text : List ℕ) (inputs bytes : Option (List ℕ)) (there : is_some bytes ≡ is_some inputs) (out out' : Option (List ℕ)) (faults faults' : ℕ) (r : Result ℕ Stop) where
   pub run_loaded : (source : ChoiceSource) (given : Given) (turns : ℕ) → IsGivenBy source given →
       HasLoads leads old new (WereLoaded told (wanted_by (AsksRun name inputs source turns)) ((text ∷ option_to_list bytes) ++ given_bytes given)) →
@@ -109,6 +136,25 @@ module _ {F : Type 0} (leads : F → Load → F → Type 0) (old new : F) (told 
       all_loaded leads old new told file_faults file_faults' (AsksJudge name inputs sequence bound) ((text ∷ option_to_list bytes) ++ (lines ∷ [])) out out' faults faults' r made
       (comes_more (JudgeMeans text bytes lines bound) (Means (AsksJudge name inputs sequence bound) ((text ∷ option_to_list bytes) ++ (lines ∷ []))) Never Never out out' faults faults' r
       (λ o means. judge_means name sequence text lines bound o inputs bytes there means) (λ o never. never) h)
+
+  pub variants_loaded : (sequence lines : List ℕ) (bound : ℕ) →
+      HasLoads leads old new (WereLoaded told (wanted_by (AsksVariants name inputs sequence bound)) ((text ∷ option_to_list bytes) ++ (lines ∷ []))) →
+      Comes (VariantsMeans text bytes lines bound) (VariantsMeans text bytes lines bound) out out' faults faults' r →
+      HasLoads leads old new (λ loads. Comes (CallsFor (AsksVariants name inputs sequence bound) told file_faults file_faults' loads) (GrowsFor (AsksVariants name inputs sequence bound) told file_faults file_faults' loads) out out' faults faults' r)
+  variants_loaded sequence lines bound made h =
+      all_growing leads old new told file_faults file_faults' (AsksVariants name inputs sequence bound) ((text ∷ option_to_list bytes) ++ (lines ∷ [])) out out' faults faults' r made
+      (comes_more (VariantsMeans text bytes lines bound) (Means (AsksVariants name inputs sequence bound) ((text ∷ option_to_list bytes) ++ (lines ∷ []))) (VariantsMeans text bytes lines bound) (Means (AsksVariants name inputs sequence bound) ((text ∷ option_to_list bytes) ++ (lines ∷ []))) out out' faults faults' r
+      (λ o means. variants_mean name sequence text lines bound o inputs bytes there means)
+      (λ o means. variants_mean name sequence text lines bound o inputs bytes there means) h)
+
+  pub continue_loaded : (sequence lines : List ℕ) (source : ChoiceSource) (given : Given) (count bound : ℕ) → IsGivenBy source given →
+      HasLoads leads old new (WereLoaded told (wanted_by (AsksContinue name inputs sequence source count bound)) (((text ∷ option_to_list bytes) ++ (lines ∷ [])) ++ given_bytes given)) →
+      Comes (ContinueMeans text bytes lines given count bound) Never out out' faults faults' r →
+      HasLoads leads old new (λ loads. Comes (CallsFor (AsksContinue name inputs sequence source count bound) told file_faults file_faults' loads) Never out out' faults faults' r)
+  continue_loaded sequence lines source given count bound by made h =
+      all_loaded leads old new told file_faults file_faults' (AsksContinue name inputs sequence source count bound) (((text ∷ option_to_list bytes) ++ (lines ∷ [])) ++ given_bytes given) out out' faults faults' r made
+      (comes_more (ContinueMeans text bytes lines given count bound) (Means (AsksContinue name inputs sequence source count bound) (((text ∷ option_to_list bytes) ++ (lines ∷ [])) ++ given_bytes given)) Never Never out out' faults faults' r
+      (λ o means. continue_means name sequence text lines count bound o inputs bytes source given there by means) (λ o never. never) h)
 
 -- ---- no words
 

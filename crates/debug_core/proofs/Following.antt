@@ -22,7 +22,7 @@ use Rattle.task_machine.specs.declared.verdict.Verdict.TheVariants.{Feasible, In
 use Rattle.task_machine.specs.Judging.{AllFeasible, VerdictIs}
 use Rattle.task_machine.specs.Views as views
 use Rattle.run_laws.specs.imitation.Shown.{Opened}
-use Rattle.normal_runs.specs.runs.Laws.{opened}
+use Rattle.normal_laws.specs.runs.runs.Laws.{opened}
 use Rattle.replay_runs.specs.controls.replayed.Replaying.{GoesOnWith, IsFeasible, IsRunWith, Replays, ShowsAllFeasible, shown}
 use Rattle.debug_core.specs.Headline.{FollowsAll, HasShown, KeepsTo, StopsAt}
 

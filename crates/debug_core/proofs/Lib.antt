@@ -2,6 +2,7 @@ pub mod Refusing
 pub mod ReadingBack
 pub mod Originals
 pub mod Calling
+pub mod Recording
 pub mod ShortNumbers
 pub mod OneLoad
 pub mod OneText
@@ -9,6 +10,8 @@ pub mod OneIllegal
 pub mod OneStart
 pub mod OneRun
 pub mod OneJudged
+pub mod OneVaried
+pub mod OneCollected
 pub mod OneMeaning
 pub mod OneAnswer
 pub mod Following

@@ -10,7 +10,7 @@ use Rattle.debug_outcome.specs.Outcomes.{Outcome, refuses}
 use Rattle.debug_outcome.specs.Traces.{Load}
 use Rattle.debug_outcome.specs.declared.refusal.Refusal.TheVariants.{Usage}
 use Rattle.debug_outcome.specs.files.Wanting.{wanted_by}
-use Rattle.debug_core.specs.Answers.{Means, CallsFor, GrowsFor, AnswersOf, offered}
+use Rattle.debug_core.specs.Answers.{Means, CallsFor, GrowsFor}
 use Rattle.debug_core.specs.OneAnswer.{IsUnfailed, AreAlike, EndAlike, OneAnswer}
 use Rattle.debug_core.proofs.OneLoad.{one_contents, none_refused, one_unloaded}
 use Rattle.debug_core.proofs.OneMeaning.{one_meant}
@@ -58,13 +58,10 @@ module _ (asked : Asked) (s t : Sides) (a b : ℕ) (both : AreAlike s t) (none :
         ]
       ]
 
-one_of : (asked : Option Asked) (s t : Sides) (a b : ℕ) → AreAlike s t → IsUnfailed s → IsUnfailed t → AnswersOf asked s a → AnswersOf asked t b → (a ≡ 9) ⊎ ((b ≡ 9) ⊎ EndAlike s t a b)
-one_of None s t a b both none also h k =
+pub one_answer : OneAnswer
+one_answer None s t a b both none also h k =
     inr (inr (alike (refuses Usage) (refuses Usage) s t a b both refl (whole_of (refuses Usage) s a none h) (whole_of (refuses Usage) t b also k)))
-one_of (Some asked) s t a b both none also h k =
+one_answer (Some asked) s t a b both none also h k =
     ends_alike asked s t a b both none also
     (subst (λ (told : Option (List ToldFile)). Ends (CallsFor asked told s.file_faults s.file_faults' s.loads) (GrowsFor asked told s.file_faults s.file_faults' s.loads) s a) both.its_files h)
     (subst (λ (told : Option (List ToldFile)). Ends (CallsFor asked told t.file_faults t.file_faults' t.loads) (GrowsFor asked told t.file_faults t.file_faults' t.loads) t b) both.other_files k)
-
-pub one_answer : OneAnswer
-one_answer asked s t a b both none also h k = one_of (offered asked) s t a b both none also h k

@@ -6,11 +6,12 @@ use Rattle.ada_printer.specs.ProgramText.{program_text}
 use Rattle.syn_event.specs.declared.numbering.Mode.TheVariants.{Original, Any}
 use Rattle.syn_event.specs.Numbering.{Numbering}
 use Rattle.debug_run.specs.texts.CheckText.{check_text}
-use Rattle.debug_outcome.specs.words.Words.{Asked, AsksPrint, AsksCheck, AsksRun, AsksJudge, AsksReplay, AsksRequire, AsksMigrate, NoChoices, ChoicesIn, ChoicesBy}
+use Rattle.debug_outcome.specs.words.Words.{Asked, AsksPrint, AsksCheck, AsksRun, AsksJudge, AsksReplay, AsksRequire, AsksMigrate, AsksVariants, AsksContinue, AsksCollect, AsksCollectRun, NoChoices, ChoicesIn, ChoicesBy}
 use Rattle.debug_outcome.specs.files.Giving.{Given, NothingGiven, BytesGiven, SeedGiven}
 use Rattle.debug_outcome.specs.Outcomes.{Outcome, writes}
 use Rattle.debug_judge.specs.JudgeOutcomes.{SequenceMeans}
 use Rattle.debug_replay.specs.ReplayOutcomes.{ReplaysLines}
+use Rattle.debug_variants.specs.VariantsOutcomes.{VariantsMean}
 use Rattle.debug_replay.proofs.OneReplay.{one_replay}
 use Rattle.debug_sequence.specs.MigrateOutcomes.{Migrates}
 use Rattle.debug_sequence.specs.RequireOutcomes.{RequiresLines}
@@ -19,13 +20,18 @@ use Rattle.debug_sequence.proofs.OneRequire.{one_require}
 use Rattle.debug_core.specs.Answers.{Means}
 use Rattle.debug_core.specs.CheckMeaning.{CheckMeans}
 use Rattle.debug_core.specs.ChosenRuns.{RunsUnder}
+use Rattle.debug_core.specs.ChosenEvents.{GoesOnUnder}
+use Rattle.debug_core.specs.ContinueMeaning.{ContinueMeans}
 use Rattle.debug_core.specs.JudgeMeaning.{JudgeMeans}
 use Rattle.debug_core.specs.MigrateMeaning.{MigrateMeans}
 use Rattle.debug_core.specs.PrintMeaning.{PrintMeans}
 use Rattle.debug_core.specs.ReplayMeaning.{ReplayMeans}
 use Rattle.debug_core.specs.RequireMeaning.{RequireMeans}
 use Rattle.debug_core.specs.RunMeaning.{RunMeans}
+use Rattle.debug_core.specs.VariantsMeaning.{VariantsMeans}
+use Rattle.debug_core.proofs.OneCollected.{one_collected, one_recorded}
 use Rattle.debug_core.proofs.OneJudged.{one_judged}
+use Rattle.debug_core.proofs.OneVaried.{one_varied, one_continued}
 use Rattle.debug_core.proofs.OneRun.{one_under}
 use Rattle.debug_core.proofs.OneStart.{one_refused_text, legal_or_not, same_program, same_numbers, legal_carries, one_refused_start, start_or_not, start_carries}
 use Rattle.debug_core.proofs.OneText.{one_program, read_or_unreadable, one_unreadable_text}
@@ -91,6 +97,23 @@ one_migration text lines o q (inl h) (inr k) = absurd (legal_or_not text Origina
 one_migration text lines o q (inr h) (inl k) = absurd (legal_or_not text Original k.program k.types k.numbers o k.is_legal h)
 one_migration text lines o q (inr h) (inr k) = one_refused_text text Original o q h k
 
+one_list : (text : List ℕ) (inputs : Option (List ℕ)) (lines : List ℕ) (bound : ℕ) (o q : Outcome) → VariantsMeans text inputs lines bound o → VariantsMeans text inputs lines bound q → o ≡ q
+one_list text inputs lines bound o q (inl h) (inl k) =
+    one_varied k.setup k.numbers (read_is_placed text k.setup.program k.is_start.is_legal.is_read.reads) k.is_start.is_legal.legal lines bound o q
+    (start_carries text Original inputs h.setup k.setup h.numbers k.numbers h.is_start k.is_start (λ setup numbers. VariantsMean setup numbers lines bound o) h.varied) k.varied
+one_list text inputs lines bound o q (inl h) (inr k) = absurd (start_or_not text Original inputs h.setup h.numbers q h.is_start k)
+one_list text inputs lines bound o q (inr h) (inl k) = absurd (start_or_not text Original inputs k.setup k.numbers o k.is_start h)
+one_list text inputs lines bound o q (inr h) (inr k) = one_refused_start text Original inputs o q h k
+
+one_going_on : (text : List ℕ) (inputs : Option (List ℕ)) (lines : List ℕ) (choices : Given) (count bound : ℕ) (o q : Outcome) →
+    ContinueMeans text inputs lines choices count bound o → ContinueMeans text inputs lines choices count bound q → o ≡ q
+one_going_on text inputs lines choices count bound o q (inl h) (inl k) =
+    one_continued k.setup k.numbers (read_is_placed text k.setup.program k.is_start.is_legal.is_read.reads) k.is_start.is_legal.legal lines count bound choices o q
+    (start_carries text Original inputs h.setup k.setup h.numbers k.numbers h.is_start k.is_start (λ setup numbers. GoesOnUnder setup numbers lines choices count bound o) h.goes_on) k.goes_on
+one_going_on text inputs lines choices count bound o q (inl h) (inr k) = absurd (start_or_not text Original inputs h.setup h.numbers q h.is_start k)
+one_going_on text inputs lines choices count bound o q (inr h) (inl k) = absurd (start_or_not text Original inputs k.setup k.numbers o k.is_start h)
+one_going_on text inputs lines choices count bound o q (inr h) (inr k) = one_refused_start text Original inputs o q h k
+
 pub one_meant : (asked : Asked) (contents : List (List ℕ)) (o q : Outcome) → Means asked contents o → Means asked contents q → o ≡ q
 one_meant (AsksPrint file) (text ∷ []) o q h k = one_printed text o q h k
 one_meant (AsksCheck file) (text ∷ []) o q h k = one_checked text o q h k
@@ -105,4 +128,20 @@ one_meant (AsksJudge file (Some list) sequence bound) (text ∷ inputs ∷ lines
 one_meant (AsksReplay file sequence) (text ∷ lines ∷ []) o q h k = one_replayed text lines o q h k
 one_meant (AsksRequire file sequence constraints) (text ∷ lines ∷ bytes ∷ []) o q h k = one_required text lines bytes o q h k
 one_meant (AsksMigrate file sequence) (text ∷ lines ∷ []) o q h k = one_migration text lines o q h k
+one_meant (AsksVariants file None sequence bound) (text ∷ lines ∷ []) o q h k = one_list text None lines bound o q h k
+one_meant (AsksVariants file (Some list) sequence bound) (text ∷ inputs ∷ lines ∷ []) o q h k = one_list text (Some inputs) lines bound o q h k
+one_meant (AsksContinue file None sequence NoChoices count bound) (text ∷ lines ∷ []) o q h k = one_going_on text None lines NothingGiven count bound o q h k
+one_meant (AsksContinue file None sequence (ChoicesIn name) count bound) (text ∷ lines ∷ choices ∷ []) o q h k = one_going_on text None lines (BytesGiven choices) count bound o q h k
+one_meant (AsksContinue file None sequence (ChoicesBy seed) count bound) (text ∷ lines ∷ []) o q h k = one_going_on text None lines (SeedGiven seed) count bound o q h k
+one_meant (AsksContinue file (Some list) sequence NoChoices count bound) (text ∷ inputs ∷ lines ∷ []) o q h k = one_going_on text (Some inputs) lines NothingGiven count bound o q h k
+one_meant (AsksContinue file (Some list) sequence (ChoicesIn name) count bound) (text ∷ inputs ∷ lines ∷ choices ∷ []) o q h k =
+    one_going_on text (Some inputs) lines (BytesGiven choices) count bound o q h k
+one_meant (AsksContinue file (Some list) sequence (ChoicesBy seed) count bound) (text ∷ inputs ∷ lines ∷ []) o q h k = one_going_on text (Some inputs) lines (SeedGiven seed) count bound o q h k
+one_meant (AsksCollect file) (text ∷ []) o q h k = one_collected text o q h k
+one_meant (AsksCollectRun file None NoChoices turns) (text ∷ []) o q h k = one_recorded text None NothingGiven turns o q h k
+one_meant (AsksCollectRun file None (ChoicesIn name) turns) (text ∷ choices ∷ []) o q h k = one_recorded text None (BytesGiven choices) turns o q h k
+one_meant (AsksCollectRun file None (ChoicesBy seed) turns) (text ∷ []) o q h k = one_recorded text None (SeedGiven seed) turns o q h k
+one_meant (AsksCollectRun file (Some list) NoChoices turns) (text ∷ inputs ∷ []) o q h k = one_recorded text (Some inputs) NothingGiven turns o q h k
+one_meant (AsksCollectRun file (Some list) (ChoicesIn name) turns) (text ∷ inputs ∷ choices ∷ []) o q h k = one_recorded text (Some inputs) (BytesGiven choices) turns o q h k
+one_meant (AsksCollectRun file (Some list) (ChoicesBy seed) turns) (text ∷ inputs ∷ []) o q h k = one_recorded text (Some inputs) (SeedGiven seed) turns o q h k
 one_meant asked contents o q h k = absurd h

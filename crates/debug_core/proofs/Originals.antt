@@ -11,7 +11,9 @@ use Rattle.seq_file.specs.Lines.{is_upper_name}
 use Rattle.seq_file.specs.Lists.{list_count}
 use Rattle.seq_file.proofs.MainNames.{main_is_upper}
 use Rattle.task_model.specs.Machine.{ProgramWithInputs}
-use Rattle.normalisable.specs.Laws.{IsLegalOriginal}
+use Rattle.race_variant.specs.KnownOffers.{OffersAreKnown}
+use Rattle.known_offers.proofs.Whole.{legal_offers_are_known}
+use Rattle.normal_laws.specs.existence.Laws.{IsLegalOriginal}
 use Rattle.debug_outcome.specs.files.Wanting.{original_bytes}
 use Rattle.debug_replay.proofs.OwnTasks.{lists_for_all}
 use Rattle.text_laws.proofs.normal.Joined.{text_is_legal}
@@ -48,3 +50,10 @@ module _ (start : Start) (h : IsOriginal start) where
 
   pub original_has_lists : length start.legal.numbers.tasks ≡ list_count start.legal.numbers
   original_has_lists = lists_for_all (plain_program start.legal.program) start.legal.types start.legal.numbers h.placed h.legal
+
+-- what its tasks offer has numbers that it has
+pub offers_are_known : (text : List ℕ) (setup : ProgramWithInputs) (numbers : Numbering) → length text ≤ original_bytes → IsLegalText text Original setup.program setup.types numbers → OffersAreKnown setup numbers
+offers_are_known text setup numbers within h =
+    subst (λ (n : Numbering). OffersAreKnown setup n) (sym h.legal.its_numbers)
+    (subst (λ (types : TypeTable). OffersAreKnown (record { program = setup.program; types = types; inputs = setup.inputs }) (all_numbers types setup.program)) (sym h.legal.its_types)
+    (legal_offers_are_known setup.program (read_is_original text setup.program setup.types numbers within h) setup.inputs))

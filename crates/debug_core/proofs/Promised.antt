@@ -15,8 +15,8 @@ use Rattle.seq_file.specs.Files as file
 use Rattle.debug_sequence.specs.Sequences.{IsRefusedSequence}
 use Rattle.debug_sequence.proofs.Sequences.{reads_as_unique}
 use Rattle.task_model.specs.Machine.{ProgramWithInputs}
-use Rattle.normal_runs.specs.runs.Laws.{opened}
-use Rattle.normal_runs.specs.forms.Normalisable.{numbers_of}
+use Rattle.normal_laws.specs.runs.runs.Laws.{opened}
+use Rattle.normal_laws.specs.runs.forms.Normalisable.{numbers_of}
 use Rattle.replay_model.specs.Promised.{IsReplayText}
 use Rattle.replay_model.specs.ReplayTree.{most_events}
 use Rattle.replay_runs.specs.controls.replayed.Replaying.{AgreeBelow, Replays, ReplaysProgram, starting}

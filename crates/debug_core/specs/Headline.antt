@@ -16,8 +16,8 @@ use Rattle.task_model.specs.Machine.{ProgramWithInputs}
 use Rattle.task_machine.specs.declared.verdict.Verdict.{Verdict}
 use Rattle.task_machine.specs.declared.verdict.Verdict.TheVariants.{Feasible, Infeasible, Unsettled}
 use Rattle.run_laws.specs.imitation.Shown.{Opened, end_from}
-use Rattle.normal_runs.specs.runs.Laws.{opened}
-use Rattle.normal_runs.specs.forms.Normalisable.{numbers_of}
+use Rattle.normal_laws.specs.runs.runs.Laws.{opened}
+use Rattle.normal_laws.specs.runs.forms.Normalisable.{numbers_of}
 use Rattle.replay_runs.specs.controls.replayed.Replaying.{AgreeBelow, GoesOnWith, IsFeasible, IsOver, IsRunWith, Replays, output_after, shown, starting}
 use Rattle.divergence.specs.JudgeText.{judge_text}
 use Rattle.debug_judge.specs.JudgeOutcomes.{ShowsWhy, verdict_status}

@@ -4,6 +4,7 @@ pub mod LegalTexts
 pub mod InputTexts
 pub mod ChoiceTexts
 pub mod ChosenRuns
+pub mod ChosenEvents
 pub mod Starts
 pub mod PrintMeaning
 pub mod CheckMeaning
@@ -12,6 +13,10 @@ pub mod JudgeMeaning
 pub mod ReplayMeaning
 pub mod RequireMeaning
 pub mod MigrateMeaning
+pub mod VariantsMeaning
+pub mod ContinueMeaning
+pub mod CollectMeaning
+pub mod CollectRunMeaning
 pub mod Answers
 pub mod OneAnswer
 pub mod Headline

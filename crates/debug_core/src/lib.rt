@@ -3,7 +3,11 @@
 
 mod check_command;
 mod choosing;
+mod chosen_events;
 mod chosen_runs;
+mod collect_command;
+mod collect_run_command;
+mod continue_command;
 mod judge_command;
 mod laws;
 mod migrate_command;
@@ -16,6 +20,7 @@ mod run_command;
 mod starting;
 mod text_fault;
 mod top;
+mod variants_command;
 
 pub use debug_judge::{LinesError, LinesVerdict, judge_lines};
 pub use laws::{headline, one_answer};

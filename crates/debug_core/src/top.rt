@@ -1,20 +1,24 @@
 // The program's one call.
 
-ghost use Rattle.std.specs.Prelude.{◌≡◌, map, option_map, string_bytes, MatchResult};
+ghost use Rattle.std.specs.Prelude.{map, string_bytes, MatchResult};
 ghost use Rattle.debug_outcome.specs.words.Words.{asked_by};
 ghost use Rattle.debug_outcome.specs.words.Commands.{asked_as};
 ghost use Rattle.debug_outcome.specs.Coming.{Comes};
 ghost use Rattle.debug_outcome.specs.Delivery.{Sides};
 ghost use Rattle.debug_outcome.specs.Traces.{HasLoads};
-ghost use Rattle.debug_core.specs.Answers.{sides, Answers, AnswersNoWords, CallsFor, GrowsFor, TellsNoWords, offered};
+ghost use Rattle.debug_core.specs.Answers.{sides, Answers, AnswersNoWords, CallsFor, GrowsFor, TellsNoWords};
 
 use crate::check_command::check_command;
+use crate::collect_command::collect_command;
+use crate::collect_run_command::collect_run_command;
+use crate::continue_command::continue_command;
 use crate::judge_command::judge_command;
 use crate::migrate_command::migrate_command;
 use crate::print_command::print_command;
 use crate::replay_command::replay_command;
 use crate::require_command::require_command;
 use crate::run_command::run_command;
+use crate::variants_command::variants_command;
 use debug_outcome::words::{Command, NoWords, command_of};
 use debug_outcome::{Refusal, Stop, TracedFiles, tell};
 use ded_io::Sink;
@@ -24,10 +28,12 @@ use std::alloc::Global;
 /// status with which it ends.
 ///
 /// The usages are `print FILE`, `check FILE`, `replay FILE SEQUENCE`, `migrate FILE SEQUENCE`, `require FILE SEQUENCE CONSTRAINTS`,
-/// `run FILE IN CHOICES TURNS` and `judge FILE IN SEQUENCE STEPS`. The statuses are 0 done; 10 no action applied any more and 11 all turns were made,
-/// of a run; 4 the sequence is infeasible and 5 it is not settled, where it is judged; 14 the sequence breaks a constraint; 1 the program's text is refused, 2 the words are none of these, 3 the sequence is
+/// `run FILE IN CHOICES TURNS`, `judge FILE IN SEQUENCE STEPS`, `variants FILE IN SEQUENCE STEPS`,
+/// `continue FILE IN SEQUENCE CHOICES COUNT STEPS`, `collect FILE` and `collect-run FILE IN CHOICES TURNS`. The statuses are 0 done; 10 no action applied any more and 11 all turns were made, of a run;
+/// 4 the sequence is infeasible and 5 it is not settled, where it is judged; 10 nothing can come any more, 5 that is not settled and 11 all events
+/// were added, of going on; 14 the sequence breaks a constraint; 1 the program's text is refused, 2 the words are none of these, 3 the sequence is
 /// refused, 6 a file cannot be read, 7 an output cannot be written, 8 a limit is passed, 9 out of memory, 12 the inputs or the choices are refused,
-/// 15 the constraints are refused. With 1, 2, 3, 6, 8, 9, 12 and 15 a line stands on `err`, and with these but 9 nothing on `out`. After a write
+/// 13 the program cannot be collected, since it has an abort statement, 15 the constraints are refused. With 1, 2, 3, 6, 8, 9, 12, 13 and 15 a line stands on `err`, and with these but 9 nothing on `out`. After a write
 /// that failed nothing is put.
 pub fn debug_main<F: TracedFiles, O: Sink, E: Sink>(
     alloc: Global,
@@ -39,7 +45,7 @@ pub fn debug_main<F: TracedFiles, O: Sink, E: Sink>(
     ensures answer { HasLoads F.leads files.old files.new (λ loads. Answers (asked_by (map string_bytes words.now))
         (sides F.told F.faults O.told O.faults E.told E.faults files.old files.new out.old out.new err.old err.new loads) result) }
 {
-    match offered(command_of(words)) {
+    match command_of(words) {
         Some(command) => match carry_out(alloc, command, files, out) {
             Ok(status) => status,
             Err(stop) => tell(stop, err),
@@ -64,24 +70,6 @@ pub fn debug_program<F: TracedFiles, O: Sink, E: Sink>(
     match words {
         Ok(words) => debug_main(alloc, words.as_slice(), files, out, err),
         Err(why) => tell_no_words(why, err),
-    }
-}
-
-// The command, if it is offered.
-fn offered<'w>(command: Option<Command<'w>>) -> Option<Command<'w>>
-    ensures { option_map asked_as result ≡ offered (option_map asked_as command.entry) }
-{
-    match command {
-        Some(Command::Variants(_)) => None,
-        Some(Command::Continue(_)) => None,
-        Some(Command::Print(file)) => Some(Command::Print(file)),
-        Some(Command::Check(file)) => Some(Command::Check(file)),
-        Some(Command::Run(asked)) => Some(Command::Run(asked)),
-        Some(Command::Judge(asked)) => Some(Command::Judge(asked)),
-        Some(Command::Replay(asked)) => Some(Command::Replay(asked)),
-        Some(Command::Require(asked)) => Some(Command::Require(asked)),
-        Some(Command::Migrate(asked)) => Some(Command::Migrate(asked)),
-        None => None,
     }
 }
 
@@ -112,8 +100,9 @@ fn carry_out<'w, F: TracedFiles, O: Sink>(
         Command::Replay(asked) => replay_command(alloc, asked, files, out),
         Command::Require(asked) => require_command(alloc, asked, files, out),
         Command::Migrate(asked) => migrate_command(alloc, asked, files, out),
-        // such words are told as no usage before
-        Command::Variants(_) => Err(Stop::Memory),
-        Command::Continue(_) => Err(Stop::Memory),
+        Command::Variants(asked) => variants_command(alloc, asked, files, out),
+        Command::Continue(asked) => continue_command(alloc, asked, files, out),
+        Command::Collect(file) => collect_command(alloc, file, files, out),
+        Command::CollectRun(asked) => collect_run_command(alloc, asked, files, out),
     }
 }

@@ -1,3 +1,4 @@
 pub mod Comings
 pub mod Traced
 pub mod Joined
+pub mod Lengths

@@ -4,6 +4,7 @@ pub mod Outcomes
 pub mod Traces
 pub mod Delivery
 pub mod Coming
+pub mod Printing
 pub mod Loads
 pub mod words
 pub mod files

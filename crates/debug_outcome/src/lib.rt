@@ -3,6 +3,7 @@
 
 pub mod files;
 mod loading;
+mod printing;
 mod refusal;
 pub mod sequences;
 mod stopping;
@@ -11,6 +12,7 @@ mod tracing;
 pub mod words;
 
 pub use loading::{load_file, load_named};
+pub use printing::write_text;
 pub use refusal::{
     ConstraintFault, InputFault, Listed, Misspelling, Refusal, Rule, RuleFault, SequenceFault,
     TextFault,

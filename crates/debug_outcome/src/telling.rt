@@ -50,6 +50,15 @@ pub(crate) fn put_refusal<K: Sink>(refusal: Refusal<'_>, err: &mut K) -> Result<
             )
         }
         Refusal::BadConstraints { fault, line } => put_bad_constraints(fault, line, err),
+        Refusal::HasAbort { line, column } => {
+            put_place(
+                Refusal::HasAbort { line, column },
+                b"abort",
+                line,
+                column,
+                err,
+            )
+        }
         Refusal::Unreadable(name) => put_unread(name, err),
         Refusal::TooLong { limit } => put_numbered(Refusal::TooLong { limit }, limit, err),
         Refusal::TooMany { what, limit } => {
@@ -142,7 +151,7 @@ fn put_passed<K: Sink>(what: What, limit: u32, err: &mut K) -> Result<(), SinkEr
     err.put(b"\n")
 }
 
-// Writes the name of what is wrong with a program, and where.
+// Writes the name of what is wrong with a program, or in its way, and where.
 #[tactic(auto, using(ded_io::proofs::Writes::writes))]
 fn put_place<K: Sink>(
     refusal: Refusal<'_>,
@@ -321,6 +330,7 @@ fn first_words(refusal: Refusal<'_>) -> &'static [u8]
         Refusal::BadInputs { .. } => b"ded: inputs refused: ",
         Refusal::BadChoices { .. } => b"ded: choices refused: ",
         Refusal::BadConstraints { .. } => b"ded: constraints refused: ",
+        Refusal::HasAbort { .. } => b"ded: cannot collect: ",
         Refusal::Unreadable(_) => unread_words(),
         Refusal::TooLong { .. } => b"ded: limit file ",
         Refusal::TooMany {

@@ -4,4 +4,4 @@
 mod running;
 pub mod texts;
 
-pub use running::write_run;
+pub use running::{status_of, write_run};

@@ -125,8 +125,8 @@ fn put_task<K: Sink>(
     put_part(names, t, info, machine.output(t), out)
 }
 
-// The status of a run.
-fn status_of(end: RunEnd) -> u8
+/// The status of a run by its end.
+pub fn status_of(end: RunEnd) -> u8
     ensures { result ≡ run_status end }
 {
     match end {

@@ -7,8 +7,8 @@ use case_form::{Failing, Question, Stage, Text, expand, text_named};
 use case_machines::rewritings::normal_question;
 use case_machines::{Judging, judge_question, run_question, value};
 use case_rules::{
-    Told, choices_file, event, inputs, known_of, number, numbers, origin, scopes, sequence,
-    static_expression, type_table, types,
+    Told, choices_file, event, inputs, known_of, neighbours, number, numbers, origin, scopes,
+    sequence, static_expression, type_table, types,
 };
 use case_texts::expressions::{Wanted, expression, line_col, names, token_message, tokens};
 use case_texts::programs::{fronts, message, print_question, printed_len, read, text_message};
@@ -193,7 +193,14 @@ fn answer(
             let question = Question::new(alloc, texts, asked.text, ("", ""), written)?;
             text_question(alloc, stage, asked.rest, &question, out)
         }
-        "number" | "origins" | "sequence" | "inputs" | "run" | "judge" | "judge_all" => {
+        "number"
+        | "origins"
+        | "sequence"
+        | "neighbours"
+        | "inputs"
+        | "run"
+        | "judge"
+        | "judge_all" => {
             let question = Question::new(alloc, texts, None, ("", ""), written)?;
             answer_of_program(alloc, asked, &question, out)
         }
@@ -223,6 +230,14 @@ fn answer_of_program(
             "number" => number(alloc, &mut known, question, out),
             "origins" => origin(alloc, &known, question, out),
             "sequence" => sequence(alloc, &known, Mode::Any, question, out),
+            "neighbours" => neighbours(
+                alloc,
+                &known,
+                Mode::Any,
+                asked.rest.parse().unwrap_or(0),
+                question,
+                out,
+            ),
             "inputs" => inputs(alloc, &known, question, out),
             _ => run_question(
                 alloc,

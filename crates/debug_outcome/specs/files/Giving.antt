@@ -75,6 +75,10 @@ AreShortChoices (Seeded seed) = ⊤
 abbrev pub IsShortRun : RunFiles → Type 0
 IsShortRun files = IsShortStart files.start × AreShortChoices files.choices
 
+-- an original that is collected has no more bytes than one may have
+abbrev pub IsShortCollect : RunFiles → Type 0
+IsShortCollect files = (length files.start.text.items ≤ original_bytes) × IsShortRun files
+
 abbrev pub IsShortJudge : JudgeFiles → Type 0
 IsShortJudge files = IsShortStart files.start × IsShort files.sequence.items
 

@@ -1,6 +1,6 @@
 -- Which files are loaded for what is asked, and how many bytes each may have (this project's rules).
 use Rattle.std.specs.Prelude.{ℕ, List, [], ◌∷◌, ◌++◌, Option}
-use Rattle.debug_outcome.specs.words.Words.{Asked, AsksPrint, AsksCheck, AsksRun, AsksJudge, AsksReplay, AsksRequire, AsksMigrate, AsksVariants, AsksContinue, ChoiceSource, NoChoices, ChoicesIn, ChoicesBy}
+use Rattle.debug_outcome.specs.words.Words.{Asked, AsksPrint, AsksCheck, AsksRun, AsksJudge, AsksReplay, AsksRequire, AsksMigrate, AsksVariants, AsksContinue, AsksCollect, AsksCollectRun, ChoiceSource, NoChoices, ChoicesIn, ChoicesBy}
 use Rattle.debug_outcome.specs.Loads.{file_named, files_named}
 use Rattle.debug_outcome.specs.Traces.{Wanted}
 
@@ -42,6 +42,10 @@ start_files file limit inputs = file_named file limit ∷ files_named inputs inp
 abbrev pub run_files : List ℕ → Option (List ℕ) → ChoiceSource → List Wanted
 run_files file inputs choices = start_files file text_limit inputs ++ choice_files choices
 
+-- the same of the run of a collecting text: the program is an original
+abbrev pub collect_files : List ℕ → Option (List ℕ) → ChoiceSource → List Wanted
+collect_files file inputs choices = start_files file original_bytes inputs ++ choice_files choices
+
 -- the files of a judgement: the original, the inputs of its tasks where they are named, and the sequence
 abbrev pub judge_files : List ℕ → Option (List ℕ) → List ℕ → List Wanted
 judge_files file inputs sequence = start_files file original_bytes inputs ++ (file_named sequence sequence_limit ∷ [])
@@ -68,3 +72,5 @@ wanted_by (AsksRequire file sequence constraints) = require_files file sequence 
 wanted_by (AsksMigrate file sequence) = replay_files file sequence
 wanted_by (AsksVariants file inputs sequence bound) = judge_files file inputs sequence
 wanted_by (AsksContinue file inputs sequence choices count bound) = continue_files file inputs sequence choices
+wanted_by (AsksCollect file) = file_named file original_bytes ∷ []
+wanted_by (AsksCollectRun file inputs choices turns) = collect_files file inputs choices

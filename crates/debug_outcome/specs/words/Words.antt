@@ -31,6 +31,10 @@ pub data Asked : Type 0 where
   AsksVariants : List ℕ → Option (List ℕ) → List ℕ → ℕ → Asked
   -- going on from the sequence in the second file, for the program in the first, with inputs, choices, a greatest number of events and a number of local steps
   AsksContinue : List ℕ → Option (List ℕ) → List ℕ → ChoiceSource → ℕ → ℕ → Asked
+  -- the collecting text of the program in a file
+  AsksCollect : List ℕ → Asked
+  -- the sequence that a run of the collecting text records, with inputs, choices and a number of turns as of a run
+  AsksCollectRun : List ℕ → Option (List ℕ) → ChoiceSource → ℕ → Asked
 
 -- the value of decimal digits behind a value so far
 abbrev pub digits_value : ℕ → List ℕ → Option ℕ
@@ -87,6 +91,11 @@ abbrev pub asks_run : List ℕ → List ℕ → List ℕ → List ℕ → Option
 asks_run file inputs choices number =
     option_and_then (λ source. option_map (AsksRun file (inputs_of inputs) source) (number_of number)) (choice_source choices)
 
+-- the same of the run of its collecting text
+abbrev pub asks_collect_run : List ℕ → List ℕ → List ℕ → List ℕ → Option Asked
+asks_collect_run file inputs choices number =
+    option_and_then (λ source. option_map (AsksCollectRun file (inputs_of inputs) source) (number_of number)) (choice_source choices)
+
 -- the judging of a file, where the words behind it are inputs, the name of a file of a sequence and a number of local steps
 abbrev pub asks_judge : List ℕ → List ℕ → List ℕ → List ℕ → Option Asked
 asks_judge file inputs sequence number = option_map (AsksJudge file (inputs_of inputs) sequence) (number_of number)
@@ -105,7 +114,13 @@ asks_continue file inputs sequence choices count number =
 -- the usages of two words
 abbrev pub asks_of_one : List ℕ → List ℕ → Option Asked
 asks_of_one command file =
-    if bytes_eq command (codes "print") then Some (AsksPrint file) else (if bytes_eq command (codes "check") then Some (AsksCheck file) else None)
+    if bytes_eq command (codes "print")
+    then Some (AsksPrint file)
+    else (if bytes_eq command (codes "check")
+    then Some (AsksCheck file)
+    else (if bytes_eq command (codes "collect")
+    then Some (AsksCollect file)
+    else None))
 
 -- the usages of three words
 abbrev pub asks_of_two : List ℕ → List ℕ → List ℕ → Option Asked
@@ -130,7 +145,9 @@ asks_of_four command file inputs other number =
     then asks_judge file inputs other number
     else (if bytes_eq command (codes "variants")
     then asks_variants file inputs other number
-    else None))
+    else (if bytes_eq command (codes "collect-run")
+    then asks_collect_run file inputs other number
+    else None)))
 
 -- the usage of seven words
 abbrev pub asks_of_six : List ℕ → List ℕ → List ℕ → List ℕ → List ℕ → List ℕ → List ℕ → Option Asked
@@ -138,7 +155,8 @@ asks_of_six command file inputs sequence choices count number =
     if bytes_eq command (codes "continue") then asks_continue file inputs sequence choices count number else None
 
 -- print FILE, check FILE, replay FILE SEQUENCE, migrate FILE SEQUENCE, require FILE SEQUENCE CONSTRAINTS, run FILE IN CHOICES TURNS,
--- judge FILE IN SEQUENCE STEPS, variants FILE IN SEQUENCE STEPS, and continue FILE IN SEQUENCE CHOICES COUNT STEPS
+-- judge FILE IN SEQUENCE STEPS, variants FILE IN SEQUENCE STEPS, continue FILE IN SEQUENCE CHOICES COUNT STEPS, collect FILE,
+-- and collect-run FILE IN CHOICES TURNS
 abbrev pub asked_by : List (List ℕ) → Option Asked
 asked_by (command ∷ file ∷ []) = asks_of_one command file
 asked_by (command ∷ file ∷ sequence ∷ []) = asks_of_two command file sequence

@@ -1,11 +1,11 @@
-//! Loading the files of a run, of a judgement, of going on, of a replaying and of a requiring.
+//! Loading the files of a run, of a collecting, of a judgement, of going on, of a replaying and of a requiring.
 
-ghost use Rattle.std.specs.Prelude.{◌≡◌, ◌≤◌, ◌<◌, ◌-◌, ◌^◌, is_some, IfOk};
+ghost use Rattle.std.specs.Prelude.{◌≡◌, ◌≤◌, ◌<◌, ◌-◌, ◌^◌, is_some, length, IfOk};
 ghost use Rattle.debug_outcome.specs.words.Commands.{name_as, source_as};
 ghost use Rattle.debug_outcome.specs.Loads.{CameOf};
 ghost use Rattle.debug_outcome.specs.Traces.{HasLoads};
-ghost use Rattle.debug_outcome.specs.files.Giving.{IsGivenBy, given_as, given_bytes, start_contents, run_contents, judge_contents, replay_contents, require_contents, continue_contents, IsShortStart, AreShortChoices, IsShortRun, IsShortJudge, IsShortReplay, IsShortRequire, IsShortContinue};
-ghost use Rattle.debug_outcome.specs.files.Wanting.{choice_files, start_files, run_files, judge_files, replay_files, require_files, continue_files};
+ghost use Rattle.debug_outcome.specs.files.Giving.{IsGivenBy, given_as, given_bytes, start_contents, run_contents, judge_contents, replay_contents, require_contents, continue_contents, IsShortStart, AreShortChoices, IsShortRun, IsShortCollect, IsShortJudge, IsShortReplay, IsShortRequire, IsShortContinue};
+ghost use Rattle.debug_outcome.specs.files.Wanting.{choice_files, start_files, run_files, collect_files, judge_files, replay_files, require_files, continue_files};
 
 use crate::words::{Choices, ContinueWords, JudgeWords, ReplayWords, RequireWords, RunWords};
 use crate::{Stop, TracedFiles, load_file, load_named};
@@ -47,7 +47,7 @@ pub enum ChoiceBytes {
     Seeded(u64),
 }
 
-/// The bytes of the files of a run.
+/// The bytes of the files of a run, or of the run of a collecting text.
 #[derive(Drop)]
 pub struct RunFiles {
     pub start: StartFiles,
@@ -96,6 +96,29 @@ pub fn load_run<'w, F: TracedFiles>(
     ensures count_never_falls { F.faults files.old ≤ F.faults files.new }
 {
     let start = match load_start(alloc, asked.file, TEXT_LIMIT, asked.inputs, files) {
+        Ok(start) => start,
+        Err(stop) => return Err(stop),
+    };
+    match load_choices(alloc, asked.choices, files) {
+        Ok(choices) => Ok(RunFiles { start, choices }),
+        Err(stop) => Err(stop),
+    }
+}
+
+/// Loads the files of the run of a collecting text: those of a run, where the program is an original.
+pub fn load_collect<'w, F: TracedFiles>(
+    alloc: Global,
+    asked: RunWords<'w>,
+    files: &mut F,
+) -> Result<RunFiles, Stop<'w>>
+    ensures came { HasLoads F.leads files.old files.new (CameOf run_contents (F.told files.old) (F.faults files.old) (F.faults files.new) (collect_files asked.entry.file.now (name_as asked.entry.inputs) (source_as asked.entry.choices)) result) }
+    ensures named { IfOk result (λ found. is_some found.start.inputs ≡ is_some asked.entry.inputs) }
+    ensures chosen { IfOk result (λ found. IsGivenBy (source_as asked.entry.choices) (given_as found.choices)) }
+    ensures short { IfOk result IsShortCollect }
+    ensures told_stays { F.told files.new ≡ F.told files.old }
+    ensures count_never_falls { F.faults files.old ≤ F.faults files.new }
+{
+    let start = match load_start(alloc, asked.file, ORIGINAL_LIMIT, asked.inputs, files) {
         Ok(start) => start,
         Err(stop) => return Err(stop),
     };
@@ -210,6 +233,7 @@ fn load_start<'w, F: TracedFiles>(
     requires { limit < 2 ^ 32 - 1 }
     ensures came { HasLoads F.leads files.old files.new (CameOf start_contents (F.told files.old) (F.faults files.old) (F.faults files.new) (start_files file.now limit (name_as inputs.entry)) result) }
     ensures named { IfOk result (λ start. is_some start.inputs ≡ is_some inputs.entry) }
+    ensures within { IfOk result (λ start. length start.text.items ≤ limit) }
     ensures short { IfOk result IsShortStart }
     ensures told_stays { F.told files.new ≡ F.told files.old }
     ensures count_never_falls { F.faults files.old ≤ F.faults files.new }

@@ -1,7 +1,7 @@
 // The words that the program is called with.
 
 ghost use Rattle.std.specs.Prelude.{◌≡◌, ◌≤◌, map, option_map, string_bytes, length};
-ghost use Rattle.debug_outcome.specs.words.Words.{asked_by, asks_of_one, asks_of_two, asks_of_three, asks_of_four, asks_of_six, asks_run, asks_judge, asks_variants, asks_continue, inputs_of, choice_source, seed_of, number_of, count_of, digits_value, begins_well, is_zero};
+ghost use Rattle.debug_outcome.specs.words.Words.{asked_by, asks_of_one, asks_of_two, asks_of_three, asks_of_four, asks_of_six, asks_run, asks_collect_run, asks_judge, asks_variants, asks_continue, inputs_of, choice_source, seed_of, number_of, count_of, digits_value, begins_well, is_zero};
 ghost use Rattle.debug_outcome.specs.words.Commands.{asked_as, source_as, name_as};
 
 /// What the words ask for.
@@ -25,6 +25,10 @@ pub enum Command<'w> {
     Variants(JudgeWords<'w>),
     /// Going on from a sequence of events.
     Continue(ContinueWords<'w>),
+    /// The collecting text of the program in this file.
+    Collect(&'w str),
+    /// The sequence of events that a run of the collecting text of a program records.
+    CollectRun(RunWords<'w>),
 }
 
 /// Where the choices of a run, or of going on, come from.
@@ -91,7 +95,8 @@ pub enum NoWords {
 
 /// What the words ask for; none where they are no usage. The usages are `print FILE`, `check FILE`, `replay FILE SEQUENCE`,
 /// `migrate FILE SEQUENCE`, `require FILE SEQUENCE CONSTRAINTS`, `run FILE IN CHOICES TURNS`, `judge FILE IN SEQUENCE STEPS`,
-/// `variants FILE IN SEQUENCE STEPS` and `continue FILE IN SEQUENCE CHOICES COUNT STEPS`, where IN is a file's name, or `-` for no inputs, and
+/// `variants FILE IN SEQUENCE STEPS`, `continue FILE IN SEQUENCE CHOICES COUNT STEPS`, `collect FILE` and
+/// `collect-run FILE IN CHOICES TURNS`, where IN is a file's name, or `-` for no inputs, and
 /// CHOICES a file's name, `-` for none, or `seed:` and a number from 0 to 18,446,744,073,709,551,615 without leading zeros. It takes no memory.
 #[tactic(auto, using(crate::proofs::words::Usages::no_usage))]
 pub fn command_of<'w>(words: &'w [String]) -> Option<Command<'w>>
@@ -143,6 +148,8 @@ fn of_one<'w>(command: &str, file: &'w str) -> Option<Command<'w>>
         Some(Command::Print(file))
     } else if command == "check" {
         Some(Command::Check(file))
+    } else if command == "collect" {
+        Some(Command::Collect(file))
     } else {
         None
     }
@@ -197,6 +204,8 @@ fn of_four<'w>(
         judge_of(file, inputs, other, number)
     } else if command == "variants" {
         variants_of(file, inputs, other, number)
+    } else if command == "collect-run" {
+        collect_run_of(file, inputs, other, number)
     } else {
         None
     }
@@ -221,21 +230,52 @@ fn of_six<'w>(
     }
 }
 
-// A run of the file, where the words behind it are inputs, choices and a number of turns.
-fn run_of<'w>(file: &'w str, inputs: &'w str, choices: &'w str, word: &str) -> Option<Command<'w>>
-    ensures { option_map asked_as result ≡ asks_run file.now inputs.now choices.now word.now }
+// The words of a run of the file, where those behind it are inputs, choices and a number of turns.
+fn run_words<'w>(
+    file: &'w str,
+    inputs: &'w str,
+    choices: &'w str,
+    word: &str,
+) -> Option<RunWords<'w>>
+    ensures run { option_map (λ words. asked_as (Command.Run words)) result ≡ asks_run file.now inputs.now choices.now word.now }
+    ensures collect { option_map (λ words. asked_as (Command.CollectRun words)) result ≡ asks_collect_run file.now inputs.now choices.now word.now }
 {
     let choices = match choices_of(choices) {
         Some(choices) => choices,
         None => return None,
     };
     match number_of(word.as_bytes()) {
-        Some(turns) => Some(Command::Run(RunWords {
+        Some(turns) => Some(RunWords {
             file,
             inputs: inputs_of(inputs),
             choices,
             turns,
-        })),
+        }),
+        None => None,
+    }
+}
+
+// A run of the file.
+fn run_of<'w>(file: &'w str, inputs: &'w str, choices: &'w str, word: &str) -> Option<Command<'w>>
+    ensures { option_map asked_as result ≡ asks_run file.now inputs.now choices.now word.now }
+{
+    match run_words(file, inputs, choices, word) {
+        Some(words) => Some(Command::Run(words)),
+        None => None,
+    }
+}
+
+// The run of the collecting text of the file.
+fn collect_run_of<'w>(
+    file: &'w str,
+    inputs: &'w str,
+    choices: &'w str,
+    word: &str,
+) -> Option<Command<'w>>
+    ensures { option_map asked_as result ≡ asks_collect_run file.now inputs.now choices.now word.now }
+{
+    match run_words(file, inputs, choices, word) {
+        Some(words) => Some(Command::CollectRun(words)),
         None => None,
     }
 }

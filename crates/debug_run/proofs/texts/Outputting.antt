@@ -14,11 +14,11 @@ use Rattle.debug_run.specs.texts.OutputText.{pieces_of, but_last, last_piece, ba
 use Rattle.common_lemmas.proofs.Truth.{clash}
 
 -- an output has a piece at least
-some_piece : (output : List ℕ) → 0 < length (pieces_of output)
+pub some_piece : (output : List ℕ) → 0 < length (pieces_of output)
 some_piece output = omega (arith, length-slice_split is_line_end output)
 
 -- a piece in front of others is not the last
-but_last-cons : (piece : List ℕ) (pieces : List (List ℕ)) → 0 < length pieces → but_last (piece ∷ pieces) ≡ piece ∷ but_last pieces
+pub but_last-cons : (piece : List ℕ) (pieces : List (List ℕ)) → 0 < length pieces → but_last (piece ∷ pieces) ≡ piece ∷ but_last pieces
 but_last-cons piece [] some = absurd (omega arith)
 but_last-cons piece (next ∷ rest) some = refl
 

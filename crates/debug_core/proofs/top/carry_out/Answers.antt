@@ -1,4 +1,3 @@
-use Rattle.std.proofs.Common.{[], inl, refl}
 use Rattle.debug_core.proofs.top.carry_out.Goals as goal
 
 pub returns-in-Check : goal.returns-in-Check
@@ -20,7 +19,13 @@ pub returns-in-Migrate : goal.returns-in-Migrate
 returns-in-Migrate g c = rw c.in-Migrate.is c.migrate_command.ensures
 
 pub returns-in-Variants : goal.returns-in-Variants
-returns-in-Variants g c = record { loads = []; led = refl; is_so = inl (refl, refl) }
+returns-in-Variants g c = rw c.in-Variants.is c.variants_command.ensures
 
 pub returns-in-Continue : goal.returns-in-Continue
-returns-in-Continue g c = record { loads = []; led = refl; is_so = inl (refl, refl) }
+returns-in-Continue g c = rw c.in-Continue.is c.continue_command.ensures
+
+pub returns-in-Collect : goal.returns-in-Collect
+returns-in-Collect g c = rw c.in-Collect.is c.collect_command.ensures
+
+pub returns-in-CollectRun : goal.returns-in-CollectRun
+returns-in-CollectRun g c = rw c.in-CollectRun.is c.collect_run_command.ensures

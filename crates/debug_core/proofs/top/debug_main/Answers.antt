@@ -1,10 +1,10 @@
-use Rattle.std.proofs.Common.{Option, [], refl, ap, subst, ◌∙◌}
+use Rattle.std.proofs.Common.{Option, [], refl, subst}
 use Rattle.debug_outcome.specs.words.Words.{Asked}
 use Rattle.debug_outcome.specs.words.Commands.{asked_as}
 use Rattle.debug_outcome.specs.Delivery.{Sides}
 use Rattle.debug_outcome.specs.declared.refusal.Refusal.TheVariants.{Usage}
 use Rattle.debug_outcome.proofs.Comings.{ends_done, ends_stopped, told_alone}
-use Rattle.debug_core.specs.Answers.{AnswersOf, CallsFor, GrowsFor, offered}
+use Rattle.debug_core.specs.Answers.{Answers, CallsFor, GrowsFor}
 use Rattle.debug_core.proofs.top.debug_main.Goals as goal
 
 pub returns-in-Ok : goal.returns-in-Ok
@@ -28,7 +28,7 @@ returns-in-Ok g c =
         loads = c.in-Ok.ensures.loads;
         led = c.in-Ok.ensures.led;
         is_so =
-            subst (λ (a : Option Asked). AnswersOf a s c.in-Ok.status) (c.in-Some.ensures ∙ ap offered c.command_of.ensures)
+            subst (λ (a : Option Asked). Answers a s c.in-Ok.status) c.in-Some.ensures
             (ends_done (CallsFor (asked_as c.in-Some.command) s.files s.file_faults s.file_faults' s.loads) (GrowsFor (asked_as c.in-Some.command) s.files s.file_faults s.file_faults' s.loads) s c.in-Ok.status c.in-Ok.ensures.is_so refl refl);
       };
     }
@@ -54,7 +54,7 @@ returns-in-Err g c =
         loads = c.in-Err.ensures.loads;
         led = c.in-Err.ensures.led;
         is_so =
-            subst (λ (a : Option Asked). AnswersOf a s c.tell.result) (c.in-Some.ensures ∙ ap offered c.command_of.ensures)
+            subst (λ (a : Option Asked). Answers a s c.tell.result) c.in-Some.ensures
             (ends_stopped (CallsFor (asked_as c.in-Some.command) s.files s.file_faults s.file_faults' s.loads) (GrowsFor (asked_as c.in-Some.command) s.files s.file_faults s.file_faults' s.loads) s c.in-Err.stop c.tell.result c.in-Err.ensures.is_so c.tell.ensures);
       };
     }
@@ -79,6 +79,6 @@ returns-in-None g c =
       answer = record {
         loads = [];
         led = refl;
-        is_so = subst (λ (a : Option Asked). AnswersOf a s c.tell-in-None.result) (c.in-None.ensures ∙ ap offered c.command_of.ensures) (told_alone Usage s c.tell-in-None.result refl refl c.tell-in-None.ensures);
+        is_so = subst (λ (a : Option Asked). Answers a s c.tell-in-None.result) c.in-None.ensures (told_alone Usage s c.tell-in-None.result refl refl c.tell-in-None.ensures);
       };
     }
