@@ -5,3 +5,4 @@ pub mod Stated
 pub mod Offering
 pub mod Keeping
 pub mod Whole
+pub mod Sequences

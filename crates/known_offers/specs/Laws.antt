@@ -1,9 +1,12 @@
--- The law that a legal original offers what it knows (this project's rule).
-use Rattle.std.specs.Prelude.{ℤ, List}
+-- The laws that a legal original offers what it knows, and so does it (this project's rules).
+use Rattle.std.specs.Prelude.{◌≡◌, ℤ, true, All, List}
+use Rattle.event_machine.specs.declared.Event.{Event}
 use Rattle.ada_tree.specs.PlainProgram.{PProgram}
 use Rattle.ada_static_rules.specs.Refusals.{types_in}
 use Rattle.normal_laws.specs.runs.forms.Normalisable.{numbers_of}
 use Rattle.normal_laws.specs.existence.Laws.{IsLegalOriginal}
+use Rattle.seq_file.specs.Known.{is_known}
+use Rattle.task_machine.specs.Views.{IsFeasible}
 use Rattle.race_variant.specs.KnownOffers.{OffersAreKnown}
 
 -- Whatever has happened, and whatever the inputs: each task of a legal original offers calls of members that there are, delays by numbers of alternatives,
@@ -11,3 +14,9 @@ use Rattle.race_variant.specs.KnownOffers.{OffersAreKnown}
 abbrev pub LegalOffersAreKnown : Type 0
 LegalOffersAreKnown =
     (p : PProgram) → IsLegalOriginal p → (inputs : List (List ℤ)) → OffersAreKnown (record { program = p; types = types_in p; inputs = inputs }) (numbers_of p)
+
+-- So each event of a sequence that is feasible in a legal original has numbers that the program has.
+abbrev pub LegalSequencesAreKnown : Type 0
+LegalSequencesAreKnown =
+    (p : PProgram) → IsLegalOriginal p → (inputs : List (List ℤ)) (events : List Event) → IsFeasible (record { program = p; types = types_in p; inputs = inputs }) (numbers_of p) events →
+    All (λ event. is_known (numbers_of p) event ≡ true) events

@@ -1,10 +1,12 @@
 //! What the tasks of a legal program offer has numbers that the program has.
 #![tactic(auto)]
 
-ghost use Rattle.known_offers.specs.Laws.{LegalOffersAreKnown};
+ghost use Rattle.known_offers.specs.Laws.{LegalOffersAreKnown, LegalSequencesAreKnown};
 
-/// The law that whatever a task of a legal original offers, whatever has happened, has numbers that the program has. So the events that can come next
-/// may stand in a sequence file. The function does nothing: whoever needs the law calls it for its clause.
+/// The laws that whatever a task of a legal original offers, whatever has happened, has numbers that the program has (`offers`), and so has each event of
+/// a feasible sequence (`sequences`). So feasible events may stand in a sequence file. The function does nothing: whoever needs a law calls it for its
+/// clauses.
 pub fn laws()
-    ensures { LegalOffersAreKnown }
+    ensures offers { LegalOffersAreKnown }
+    ensures sequences { LegalSequencesAreKnown }
 {}

@@ -1,3 +1,4 @@
+pub mod accepting
 pub mod units
 pub mod variable_types
 pub mod clear_scopes

@@ -1,4 +1,5 @@
 //! That every legal program has a normal form that shows the same. The crate has no functions but those that carry the laws.
+pub mod accepting;
 pub mod clear_scopes;
 pub mod room;
 pub mod statements;

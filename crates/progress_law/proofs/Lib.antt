@@ -2,5 +2,7 @@
 pub mod Proper
 pub mod Ending
 pub mod Picked
+pub mod Listed
+pub mod Halting
 pub mod Runs
 mod Example

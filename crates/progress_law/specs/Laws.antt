@@ -1,5 +1,5 @@
 -- What earlier events tell is so of every run of a program, and refuses nothing that is feasible (this project's rule).
-use Rattle.std.specs.Prelude.{◌≡◌, ℕ, Bool, true, List, [], ◌∷◌, ◌++◌, length}
+use Rattle.std.specs.Prelude.{◌≡◌, ℕ, Bool, true, List, [], ◌∷◌, ◌++◌, length, None}
 use Rattle.event_machine.specs.declared.Action.{Action}
 use Rattle.event_machine.specs.declared.Event.{Event}
 use Rattle.event_machine.specs.States.{State}
@@ -10,7 +10,8 @@ use Rattle.syn_event.specs.Numbering.{Numbering, owner_of}
 use Rattle.task_model.specs.Tasks.{Task}
 use Rattle.task_model.specs.TaskOps.{task_ops}
 use Rattle.task_model.specs.Machine.{ProgramWithInputs, Tasks, MachineState, rules_of, opening_of}
-use Rattle.task_model.specs.picked_runs.Picked.{picked}
+use Rattle.task_model.specs.picked_runs.Picked.{halted, picked}
+use Rattle.task_machine.specs.Table.{can}
 use Rattle.task_machine.specs.declared.verdict.Verdict.TheVariants.{Feasible}
 use Rattle.task_machine.specs.Views.{IsFeasible}
 use Rattle.task_machine.specs.Judging.{VerdictIs}
@@ -60,6 +61,10 @@ PickedIsRun C =
     (word : C → ℕ) (next : C → C) (setup : ProgramWithInputs) (numbers : Numbering) (turns : ℕ) (choices : C) →
     let p = picked word next turns (opening_of setup numbers) choices in
     IsReached numbers (opening_of setup numbers).state p.machine p.events
+
+-- Where a run halts by itself, since the program has ended or the list of the actions that apply is empty, no action applies.
+abbrev pub HaltedIsOver : Type 0
+HaltedIsOver = (m : MachineState) → (halted m ≡ None → ⊥) → (action : Action) → can m action ≡ true → ⊥
 
 -- So what the events of the run that choices pick tell is so of its machine.
 abbrev pub PickedEventsTell : Type 0 → Type 0

@@ -6,7 +6,7 @@ pub mod examples;
 ghost use Rattle.std.specs.Prelude.{◌≡◌};
 ghost use Rattle.event_machine.specs.progress.Known.{admits};
 ghost use Rattle.syn_event.specs.Numbering.{owner_of};
-ghost use Rattle.progress_law.specs.Laws.{KnownByEvent, EventsTell, FeasibleIsAdmitted, JudgedIsAdmitted, NeverRefuses, AreInstances, PickedIsRun, PickedEventsTell};
+ghost use Rattle.progress_law.specs.Laws.{KnownByEvent, EventsTell, FeasibleIsAdmitted, JudgedIsAdmitted, NeverRefuses, AreInstances, HaltedIsOver, PickedIsRun, PickedEventsTell};
 
 use control_script::progress::Progress;
 use event_machine::Event;
@@ -15,13 +15,14 @@ use syn_event::Numbers;
 /// Carries the laws of progress for the runs of a program, for every tree, table of types, list of inputs and numbers. What is known goes on event by
 /// event (`step_by_step`). After each run the tasks are closed, served and called as its events tell, and the program has ended as they tell (`told`). An
 /// event that is feasible next is admitted by what the events before it tell (`admitted`); so each event of a sequence that is judged feasible is
-/// (`judged`). And each program is an instance of the laws of abstract tasks (`instance`). The function does nothing: whoever needs a law calls it for
-/// its clauses.
+/// (`judged`). Where a run halts by itself no action applies any more (`over`). And each program is an instance of the laws of abstract tasks
+/// (`instance`). The function does nothing: whoever needs a law calls it for its clauses.
 pub fn laws()
     ensures step_by_step { KnownByEvent }
     ensures told { EventsTell }
     ensures admitted { FeasibleIsAdmitted }
     ensures judged { JudgedIsAdmitted }
+    ensures over { HaltedIsOver }
     ensures instance { AreInstances }
 {}
 

@@ -1,3 +1,3 @@
 pub mod Places
 pub mod Laws
-pub mod Origins
+pub mod inner

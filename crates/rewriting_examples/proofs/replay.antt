@@ -1,5 +1,4 @@
 pub mod Trees
-mod Listed
 mod Named
 mod Rendezvous
 mod Calls

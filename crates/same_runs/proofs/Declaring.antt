@@ -19,7 +19,7 @@ use Rattle.same_runs.proofs.Lists.{flat_mapped, if_like, map_twice, option_once}
 use Rattle.same_runs.proofs.Names.{mark_at_same}
 use Rattle.same_runs.proofs.Statics.{kind_same, marking_same, meaning_same, scalar_same, static_range_same, static_same}
 use Rattle.same_runs.specs.Renamed.{IsRenaming, renamed_bounds, renamed_constant, renamed_decl, renamed_decls, renamed_drange, renamed_entry, renamed_formal, renamed_id, renamed_init, renamed_kind, renamed_mark, renamed_program, renamed_shape, renamed_subind, renamed_task, renamed_types, renamed_word}
-use Rattle.same_runs.specs.RenamedScopes.{renamed_declared, renamed_entry_part, renamed_formal_part, renamed_made, renamed_marking, renamed_meaning, renamed_scope, renamed_thing}
+use Rattle.same_runs.specs.inner.RenamedScopes.{renamed_declared, renamed_entry_part, renamed_formal_part, renamed_made, renamed_marking, renamed_meaning, renamed_scope, renamed_thing}
 
 module _ (f : ℕ → ℕ) (r : IsRenaming f) where
   -- ---- the table

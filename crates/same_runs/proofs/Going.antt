@@ -12,8 +12,8 @@ use Rattle.task_model.specs.Tasks.{Task, entered, gone_to, or_raised, outer_of, 
 use Rattle.same_runs.proofs.Lists.{any_mapped, if_like, unwrapped}
 use Rattle.same_runs.proofs.Names.{kept, told}
 use Rattle.same_runs.specs.Renamed.{IsRenaming, renamed_handlers, renamed_id, renamed_maybe, renamed_stmt, renamed_stmts, renamed_word}
-use Rattle.same_runs.specs.RenamedTasks.{renamed_around, renamed_control, renamed_frame, renamed_parameter, renamed_state, renamed_turns}
-use Rattle.same_runs.specs.RenamedValues.{renamed_object, renamed_raised, renamed_result, renamed_vars}
+use Rattle.same_runs.specs.inner.RenamedTasks.{renamed_around, renamed_control, renamed_frame, renamed_parameter, renamed_state, renamed_turns}
+use Rattle.same_runs.specs.inner.RenamedValues.{renamed_object, renamed_raised, renamed_result, renamed_vars}
 use Rattle.ada_value.specs.declared.values.Raised.TheVariants as raised
 
 module _ (f : ℕ → ℕ) (r : IsRenaming f) where

@@ -23,8 +23,8 @@ use Rattle.same_runs.proofs.Names.{checked_for_same, kept, set_value_same, then_
 use Rattle.same_runs.proofs.Settings.{entry_parameters_same, lists_same, parameters_same}
 use Rattle.same_runs.proofs.Waiting.{alternative_same, call_in_same, called_same, delay_stmts_same, handed_same, opened_same}
 use Rattle.same_runs.specs.Renamed.{IsRenaming, no_span, renamed_call, renamed_callee, renamed_expr, renamed_id, renamed_stmt, renamed_stmts, renamed_types}
-use Rattle.same_runs.specs.RenamedTasks.{renamed_around, renamed_copies, renamed_frame, renamed_open, renamed_parameter, renamed_state}
-use Rattle.same_runs.specs.RenamedValues.{renamed_object, renamed_raised, renamed_result, renamed_vars}
+use Rattle.same_runs.specs.inner.RenamedTasks.{renamed_around, renamed_copies, renamed_frame, renamed_open, renamed_parameter, renamed_state}
+use Rattle.same_runs.specs.inner.RenamedValues.{renamed_object, renamed_raised, renamed_result, renamed_vars}
 use Rattle.ada_value.specs.declared.values.Raised.TheVariants as raised
 
 module _ (f : ℕ → ℕ) (r : IsRenaming f) where

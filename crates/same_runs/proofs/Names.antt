@@ -25,7 +25,7 @@ use Rattle.ada_value.specs.declared.values.Value.{Value}
 use Rattle.ada_value.specs.declared.values.Value.TheVariants.{Number, Place, Truth}
 use Rattle.same_runs.proofs.Lists.{find_mapped, if_like, option_once, position_mapped}
 use Rattle.same_runs.specs.Renamed.{IsRenaming, KeepsTexts, renamed_bounds, renamed_constant, renamed_drange, renamed_expr, renamed_id, renamed_kind, renamed_mark, renamed_part, renamed_types}
-use Rattle.same_runs.specs.RenamedValues.{renamed_object, renamed_result, renamed_vars}
+use Rattle.same_runs.specs.inner.RenamedValues.{renamed_object, renamed_result, renamed_vars}
 use Rattle.ada_tree.specs.declared.static_types.Kind.TheVariants as kind
 use Rattle.ada_tree.specs.declared.expressions.UnaryOp.TheVariants as unary
 use Rattle.ada_tree.specs.declared.expressions.BinaryOp.TheVariants.{And, Or, Xor, AndThen, OrElse, Equal, NotEqual, Less, LessEqual, Greater, GreaterEqual, Plus, Minus, Times, Divide, Mod, Rem}

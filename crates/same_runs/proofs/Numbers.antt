@@ -24,8 +24,8 @@ use Rattle.same_runs.proofs.Lists.{count_mapped, find_mapped, flat_mapped, map_o
 use Rattle.same_runs.proofs.Names.{mark_named_same}
 use Rattle.same_runs.proofs.Statics.{is_static_same, spanless, value_same}
 use Rattle.same_runs.specs.Renamed.{IsRenaming, KeepsTexts, no_span, renamed_bounds, renamed_decls, renamed_drange, renamed_entry, renamed_expr, renamed_id, renamed_mark, renamed_program, renamed_shape, renamed_task, renamed_types, renamed_word}
-use Rattle.same_runs.specs.RenamedNumbers.{renamed_named, renamed_numbered}
-use Rattle.same_runs.specs.RenamedTasks.{renamed_entry_info, renamed_numbers, renamed_task_info}
+use Rattle.same_runs.specs.inner.RenamedNumbers.{renamed_named, renamed_numbered}
+use Rattle.same_runs.specs.inner.RenamedTasks.{renamed_entry_info, renamed_numbers, renamed_task_info}
 
 module _ (f : ℕ → ℕ) (r : IsRenaming f) where
   -- ---- extents

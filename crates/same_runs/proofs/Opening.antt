@@ -33,8 +33,8 @@ use Rattle.same_runs.proofs.Lists.{count_mapped, if_like, map_once, unwrapped}
 use Rattle.same_runs.proofs.Names.{evaluated_same, kept, kind_at_same, limits_at_same, lower_same, mark_named_same, narrowed_same, range_same}
 use Rattle.same_runs.proofs.Settings.{entry_at_same, task_at_same}
 use Rattle.same_runs.specs.Renamed.{IsRenaming, renamed_body, renamed_bounds, renamed_decl, renamed_decls, renamed_drange, renamed_expr, renamed_handlers, renamed_id, renamed_init, renamed_kind, renamed_mark, renamed_program, renamed_shape, renamed_stmts, renamed_subind, renamed_types, renamed_word}
-use Rattle.same_runs.specs.RenamedTasks.{names_for, renamed_entry_info, renamed_numbers, renamed_setting, renamed_state, renamed_task_info, renamed_unit}
-use Rattle.same_runs.specs.RenamedValues.{renamed_object, renamed_vars}
+use Rattle.same_runs.specs.inner.RenamedTasks.{names_for, renamed_entry_info, renamed_numbers, renamed_setting, renamed_state, renamed_task_info, renamed_unit}
+use Rattle.same_runs.specs.inner.RenamedValues.{renamed_object, renamed_vars}
 use Rattle.event_machine.specs.declared.Event.TheVariants as event
 use Rattle.task_model.specs.Starting as starting
 use Rattle.ada_tree.specs.declared.static_types.Kind.TheVariants as kind

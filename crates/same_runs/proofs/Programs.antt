@@ -31,7 +31,7 @@ use Rattle.same_runs.proofs.Trees.{program_same}
 use Rattle.same_runs.specs.Alike.{ProgramsAlike, RunAlike, SeatsAlike, StatesAlike}
 use Rattle.same_runs.specs.Laws.{IsNameTable, IsNamed}
 use Rattle.same_runs.specs.Renamed.{IsRenaming, KeepsTexts, no_span, renamed_program, renamed_types}
-use Rattle.same_runs.specs.RenamedTasks.{names_for, renamed_numbers, renamed_setting, renamed_task_info}
+use Rattle.same_runs.specs.inner.RenamedTasks.{names_for, renamed_numbers, renamed_setting, renamed_task_info}
 use Rattle.task_laws.proofs.invariants.Beginning.{length_first}
 use Rattle.normal_laws.specs.runs.forms.Normalisable.{numbers_of}
 use Rattle.replay_runs.specs.controls.replayed.Replaying.{starting}

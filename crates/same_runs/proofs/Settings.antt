@@ -19,8 +19,8 @@ use Rattle.task_model.specs.Setting.{Setting, callee_task, entry_of, entry_param
 use Rattle.same_runs.proofs.Lists.{find_mapped, flat_mapped, if_like, map_twice, position_mapped, unwrapped}
 use Rattle.same_runs.proofs.Names.{evaluated_same, if_kept, kept, limits_named_same, then_kept}
 use Rattle.same_runs.specs.Renamed.{IsRenaming, renamed_args, renamed_callee, renamed_decl, renamed_decls, renamed_entry, renamed_expr, renamed_formal, renamed_id, renamed_program, renamed_task, renamed_types, renamed_word}
-use Rattle.same_runs.specs.RenamedTasks.{names_for, renamed_entry_info, renamed_lists, renamed_numbers, renamed_parameter, renamed_setting, renamed_task_info}
-use Rattle.same_runs.specs.RenamedValues.{renamed_vars}
+use Rattle.same_runs.specs.inner.RenamedTasks.{names_for, renamed_entry_info, renamed_lists, renamed_numbers, renamed_parameter, renamed_setting, renamed_task_info}
+use Rattle.same_runs.specs.inner.RenamedValues.{renamed_vars}
 use Rattle.ada_value.specs.declared.values.Raised.TheVariants as raised
 
 -- an option that may be missing, with the exception that is raised then

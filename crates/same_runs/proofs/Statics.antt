@@ -16,7 +16,7 @@ use Rattle.ada_static_rules.specs.StaticValue.{applied, attribute_at, bound_of, 
 use Rattle.same_runs.proofs.Lists.{find_mapped, if_like, option_once, option_twice}
 use Rattle.same_runs.proofs.Names.{attribute_same, constant_named_same, is_of_kind_same, kind_at_same, literal_position_same, mark_at_same, mark_named_same, told}
 use Rattle.same_runs.specs.Renamed.{IsRenaming, no_span, renamed_bounds, renamed_constant, renamed_expr, renamed_id, renamed_kind, renamed_mark, renamed_types}
-use Rattle.same_runs.specs.RenamedScopes.{renamed_marking, renamed_meaning, renamed_scope, renamed_thing}
+use Rattle.same_runs.specs.inner.RenamedScopes.{renamed_marking, renamed_meaning, renamed_scope, renamed_thing}
 use Rattle.ada_tree.specs.declared.static_types.Kind.TheVariants as kind
 use Rattle.ada_tree.specs.declared.expressions.UnaryOp.TheVariants as unary
 use Rattle.ada_tree.specs.declared.expressions.BinaryOp.TheVariants.{And, Or, Xor, AndThen, OrElse, Equal, NotEqual, Less, LessEqual, Greater, GreaterEqual, Plus, Minus, Times, Divide, Mod, Rem}

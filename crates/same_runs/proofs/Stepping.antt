@@ -19,8 +19,8 @@ use Rattle.same_runs.proofs.Going.{entered_same, exited_same, gone_same, handled
 use Rattle.same_runs.proofs.Lists.{if_like}
 use Rattle.same_runs.proofs.Names.{checked_for_same, component_place_same, condition_same, evaluated_same, if_kept, kept, limits_named_same, limits_of_kind_same, parts_same, range_same, set_value_same, then_kept, value_at_same}
 use Rattle.same_runs.specs.Renamed.{IsRenaming, renamed_arms, renamed_body, renamed_case_arms, renamed_choice, renamed_drange, renamed_expr, renamed_id, renamed_maybe, renamed_part, renamed_scheme, renamed_stmt, renamed_stmts, renamed_target, renamed_word}
-use Rattle.same_runs.specs.RenamedTasks.{KeepsTextsOf, names_for, renamed_around, renamed_frame, renamed_state, renamed_turns}
-use Rattle.same_runs.specs.RenamedValues.{renamed_object, renamed_raised, renamed_result, renamed_vars}
+use Rattle.same_runs.specs.inner.RenamedTasks.{KeepsTextsOf, names_for, renamed_around, renamed_frame, renamed_state, renamed_turns}
+use Rattle.same_runs.specs.inner.RenamedValues.{renamed_object, renamed_raised, renamed_result, renamed_vars}
 use Rattle.ada_value.specs.declared.values.Raised.TheVariants as raised
 
 module _ (f : ℕ → ℕ) (r : IsRenaming f) (names : List (List ℕ)) where

@@ -14,7 +14,7 @@ use Rattle.common_lemmas.proofs.Options.{not_missing, some_same}
 use Rattle.common_lemmas.proofs.Truth.{if_false, if_true}
 use Rattle.same_runs.specs.Laws.{IsNameTable}
 use Rattle.same_runs.specs.Renamed.{IsRenaming, KeepsTexts}
-use Rattle.same_runs.specs.RenamedTasks.{names_for}
+use Rattle.same_runs.specs.inner.RenamedTasks.{names_for}
 use Rattle.legal_programs.proofs.rewritten_types.Lookups.{place-more}
 use Rattle.replay_structure.proofs.spots.Placed.{place-past}
 

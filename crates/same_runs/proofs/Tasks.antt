@@ -13,7 +13,7 @@ use Rattle.same_runs.proofs.Stepping.{stepped_with_same}
 use Rattle.same_runs.proofs.Waiting.{renamed_stand, stand_same}
 use Rattle.same_runs.specs.Alike.{Respects}
 use Rattle.same_runs.specs.Renamed.{IsRenaming, KeepsTexts}
-use Rattle.same_runs.specs.RenamedTasks.{KeepsTextsOf, names_for, renamed_state}
+use Rattle.same_runs.specs.inner.RenamedTasks.{KeepsTextsOf, names_for, renamed_state}
 
 module _ (f : ℕ → ℕ) (r : IsRenaming f) (names : List (List ℕ)) where
   steps_kept : (x : Stand) → steps_at (renamed_stand f r x) ≡ steps_at x

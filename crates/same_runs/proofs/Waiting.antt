@@ -26,8 +26,8 @@ use Rattle.same_runs.proofs.Lists.{any_mapped, find_mapped}
 use Rattle.same_runs.proofs.Names.{checked_kept, evaluated_same, kept, lower_same, then_kept, then_like}
 use Rattle.same_runs.proofs.Settings.{callee_same, entry_parameters_same, entry_same, lists_same, member_index_same}
 use Rattle.same_runs.specs.Renamed.{IsRenaming, renamed_accept, renamed_alt_kind, renamed_alts, renamed_args, renamed_call, renamed_callee, renamed_expr, renamed_head, renamed_maybe, renamed_stmt, renamed_stmts, renamed_types}
-use Rattle.same_runs.specs.RenamedTasks.{renamed_around, renamed_lists, renamed_numbers, renamed_open, renamed_parameter, renamed_setting, renamed_state}
-use Rattle.same_runs.specs.RenamedValues.{renamed_object, renamed_raised, renamed_result, renamed_vars}
+use Rattle.same_runs.specs.inner.RenamedTasks.{renamed_around, renamed_lists, renamed_numbers, renamed_open, renamed_parameter, renamed_setting, renamed_state}
+use Rattle.same_runs.specs.inner.RenamedValues.{renamed_object, renamed_raised, renamed_result, renamed_vars}
 use Rattle.event_machine.specs.declared.Choice.TheVariants as choice
 use Rattle.event_machine.specs.declared.CallForm.TheVariants as form
 

@@ -2,7 +2,4 @@ pub mod Alike
 pub mod Example
 pub mod Laws
 pub mod Renamed
-pub mod RenamedNumbers
-pub mod RenamedScopes
-pub mod RenamedTasks
-pub mod RenamedValues
+pub mod inner

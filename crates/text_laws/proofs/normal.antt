@@ -1,3 +1,4 @@
 pub mod Joined
 pub mod Computing
 pub mod Instance
+pub mod Few

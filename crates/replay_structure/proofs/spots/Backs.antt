@@ -16,7 +16,7 @@ use Rattle.run_laws.specs.replaying.Copies.{Sort, AtOriginal, AtShadow, AtGo, At
 use Rattle.run_laws.specs.replaying.Laws.{stands_for, at_entry}
 use Rattle.replay_structure.specs.spots.Places.{total, end_place, original_place, double_place, never_place, join_place, behind, last_sort, sort_at, bound, number_or, sort_of, counts, text_spots}
 use Rattle.replay_structure.specs.spots.Laws.{IsInOrder}
-use Rattle.replay_structure.specs.spots.Origins.{HasOrigins, IsPlaced, meant}
+use Rattle.replay_structure.specs.spots.inner.Origins.{HasOrigins, IsPlaced, meant}
 use Rattle.replay_structure.proofs.spots.Sorted.{near-number, IsAt, at_original, at_double, at_never, at_join, at_last, is-at}
 use Rattle.replay_structure.proofs.spots.Placed.{entry-suc, entries-long, near, tasks-are, some-entry, its-owner, have_owners}
 

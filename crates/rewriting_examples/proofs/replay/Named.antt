@@ -41,7 +41,7 @@ use Rattle.replay_is_legal.specs.Laws.{text_for}
 use Rattle.replay_runs.specs.controls.replayed.Replaying.{output_after, IsRunWith, IsFeasible, IsOver, shown, starting}
 use Rattle.rewriting_examples.specs.normal.Showing.{outputs_of}
 use Rattle.rewriting_examples.specs.replay.Runs.{one, text, meant, ShowsBy, GoesOnBy, EndsBy, HasParts}
-use Rattle.rewriting_examples.proofs.replay.Listed.{none_applies}
+use Rattle.progress_law.proofs.Listed.{none_applies}
 
 -- ---- tests
 

@@ -3,3 +3,4 @@ pub mod Frames
 pub mod Steps
 pub mod Meetings
 pub mod Carried
+pub mod Everywhere

@@ -41,7 +41,7 @@ module _ (bytes : List ℕ) where
 
   -- ---- names
 
-  few-interned : (names : List (List ℕ)) (t : List ℕ) → length (interned names t) ≤ length names + 1
+  pub few-interned : (names : List (List ℕ)) (t : List ℕ) → length (interned names t) ≤ length names + 1
   few-interned names t = pick (list_any (bytes_eq t) names)
     where
       pick : (b : Bool) → length (cond b names (names ++ t ∷ [])) ≤ length names + 1

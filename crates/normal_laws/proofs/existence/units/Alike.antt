@@ -1,5 +1,5 @@
--- Formals that the rule ArgCount finds the same have the same modes and subtypes.
-use Rattle.std.proofs.Common.{◌≡◌, ℕ, true, false, ◌&&◌, ◌==◌, List, [], ◌∷◌, ◌++◌, map, refl, sym, ap, ap₂, subst, ◌∙◌, true≢false}
+-- Formals that the rule ArgCount finds the same have the same names, modes and subtypes.
+use Rattle.std.proofs.Common.{◌≡◌, ℕ, true, ◌&&◌, ◌==◌, List, [], ◌∷◌, ◌++◌, map, refl, sym, ap, ap₂, subst, ◌∙◌, true≢false}
 use Rattle.std.proofs.lemmas.Bool.{eqb-true}
 use Rattle.std.proofs.lemmas.List.{map-append}
 use Rattle.ada_tree.specs.declared.naming.NameId.{NameId}
@@ -59,19 +59,30 @@ module _ (T : TypeTable) where
         ap₂ (λ (a b : List FormalParameter). a ++ b) (part-row f.mode f.mark.name f.names) (part-parameters fs)
         ∙ sym (map-append of_part (map (λ (w : Word). record { name = w.name; mode = f.mode; mark = f.mark.name; kind = scalar_kind (marking around f.mark.name) }) f.names) (formal_parts around fs))
 
-  rows-alike : (ws : List Written) (fs : List FormalPart) → are_same ws fs ≡ true → AreAlike (map of_part fs) (map of_written ws)
-  rows-alike [] [] e = tt
-  rows-alike [] (f ∷ fs) e = absurd (true≢false (sym e))
-  rows-alike (w ∷ ws) [] e = absurd (true≢false (sym e))
-  rows-alike (w ∷ ws) (f ∷ fs) e =
+  -- formals that are the same have the same names, modes and subtypes
+  rows-same : (ws : List Written) (fs : List FormalPart) → are_same ws fs ≡ true → map of_written ws ≡ map of_part fs
+  rows-same [] [] e = refl
+  rows-same [] (f ∷ fs) e = absurd (true≢false (sym e))
+  rows-same (w ∷ ws) [] e = absurd (true≢false (sym e))
+  rows-same (w ∷ ws) (f ∷ fs) e =
       let last = and_both ((w.name.0 == f.name.0) && same_mode w.mode f.mode && (w.mark.0 == f.mark.0)) (are_same ws fs) e in
       let third = and_both ((w.name.0 == f.name.0) && same_mode w.mode f.mode) (w.mark.0 == f.mark.0) last.0 in
       let second = and_both (w.name.0 == f.name.0) (same_mode w.mode f.mode) third.0 in
-      ((mode-same w.mode f.mode second.1, ap (λ (n : ℕ). limits_named T record { 0 = n }) (sym (eqb-true w.mark.0 f.mark.0 third.1))), rows-alike ws fs last.1)
+      let name : w.name.0 ≡ f.name.0 = eqb-true w.name.0 f.name.0 second.0 in
+      let mode : w.mode ≡ f.mode = sym (mode-same w.mode f.mode second.1) in
+      let mark : w.mark.0 ≡ f.mark.0 = eqb-true w.mark.0 f.mark.0 third.1 in
+      let one : of_written w ≡ of_part f =
+      (ap₂ (λ (n : ℕ) (m : ParMode). record { name = record { 0 = n }; mode = m; limits = limits_named T w.mark }) name mode
+      ∙ ap (λ (n : ℕ). record { name = f.name; mode = f.mode; limits = limits_named T record { 0 = n } }) mark) in
+      ap₂ (λ (x : FormalParameter) (xs : List FormalParameter). x ∷ xs) one (rows-same ws fs last.1)
 
-  -- formals that are the same
-  pub formals-alike : (around : Scope) (its written : List PFormal) → are_same (written_formals written) (formal_parts around its) ≡ true → AreAlike (parameters_of T its) (parameters_of T written)
-  formals-alike around its written e = both (parameters_of T its) (parameters_of T written) (part-parameters around its) (written-parameters written) (rows-alike (written_formals written) (formal_parts around its) e)
-    where
-      both : (xs ys : List FormalParameter) → xs ≡ map of_part (formal_parts around its) → ys ≡ map of_written (written_formals written) → AreAlike (map of_part (formal_parts around its)) (map of_written (written_formals written)) → AreAlike xs ys
-      both xs ys p q h = subst (λ l. AreAlike l ys) (sym p) (subst (λ l. AreAlike (map of_part (formal_parts around its)) l) (sym q) h)
+  pub formals-same : (around : Scope) (its written : List PFormal) → are_same (written_formals written) (formal_parts around its) ≡ true → parameters_of T written ≡ parameters_of T its
+  formals-same around its written e = written-parameters written ∙ rows-same (written_formals written) (formal_parts around its) e ∙ sym (part-parameters around its)
+
+-- the same formals are alike
+pub alike-same : (xs ys : List FormalParameter) → xs ≡ ys → AreAlike ys xs
+alike-same xs ys e = subst (λ l. AreAlike l xs) e (alike xs)
+  where
+    alike : (fs : List FormalParameter) → AreAlike fs fs
+    alike [] = tt
+    alike (f ∷ fs) = ((refl, refl), alike fs)

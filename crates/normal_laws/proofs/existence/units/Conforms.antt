@@ -15,7 +15,7 @@ use Rattle.ada_tree.specs.WellPlaced.{tokens, HasTokens}
 use Rattle.ada_static_rules.specs.Refusals.{MeetsTypeRules, types_in}
 use Rattle.ada_static_rules.specs.Scope.{Scope, Thing, TypeMark, TaskType, SingleTask, TaskObject, TaskArray, Variable, ConstantObject, Parameter, LoopParameter, Literal, AnException, MainProcedure, AnotherUnit, Unclear, EntryPart, meaning, entry_named}
 use Rattle.ada_static_rules.specs.Sites.{head_sites, body_sites, decl_sites, decls_sites, own_sites, loop_scope}
-use Rattle.ada_static_rules.specs.Declaring.{first_scope, inner_scope, formal_parts, entry_part, own_entries, in_body, after_own_object, after_objects, after_decl, after_decls}
+use Rattle.ada_static_rules.specs.Declaring.{first_scope, inner_scope, formal_parts, entry_part, own_entries, in_body, after_objects, after_decl, after_decls}
 use Rattle.ada_static_rules.specs.RuleUnknown.{no_body_of}
 use Rattle.ada_static_rules.specs.RuleArgCount.{written_formals, are_same, fits_accept, wrong_accept}
 use Rattle.syn_event.specs.declared.numbering.Mode.{Mode}
@@ -33,13 +33,13 @@ use Rattle.syn_event.specs.NamedTasks.{NumberedTask, numbered_tasks, task_names_
 use Rattle.task_model.specs.Setting.{Setting, unit_named, parameters_of}
 use Rattle.task_model.specs.Starting.{unit_among, unit_of_info, unit_of}
 use Rattle.task_laws.specs.invariants.AcceptHeads.{InBody}
-use Rattle.task_laws.specs.invariants.Holding.{AreAlike}
 use Rattle.task_laws.specs.invariants.Worlds.{Conforms}
 use Rattle.task_laws.specs.translation.OldTexts.{Asked, OldBody}
 use Rattle.legal_programs.specs.rewritten_types.Rewriting.{IsUsed, IsUnused, names_declared, DeclareOnce}
 use Rattle.legal_programs.proofs.rewritten_types.Lookups.{find-only, place-all}
 use Rattle.legal_programs.proofs.rewritten_types.Refused.{declared_once}
 use Rattle.normal_laws.proofs.structure.units.Declared.{parts-all, numbered-tasks-all}
+use Rattle.normal_laws.specs.existence.accepting.Laws.{HasFormals}
 use Rattle.normal_laws.specs.existence.inner.Gives.{Known, Gives}
 use Rattle.normal_laws.proofs.existence.walked_statements.Walk.{body-as-asked}
 use Rattle.normal_laws.proofs.structure.entries.Entries.{IsTaskOf, mapped-at, entry-there}
@@ -47,7 +47,7 @@ use Rattle.legal_programs.specs.sites.Met.{IsMet, IsCheckMet}
 use Rattle.legal_programs.proofs.sites.Meeting.{all_met, all_check_met}
 use Rattle.legal_programs.proofs.sites.Around.{test-fails}
 use Rattle.normal_laws.proofs.existence.units.AcceptHeads.{in-body}
-use Rattle.normal_laws.proofs.existence.units.Alike.{formals-alike}
+use Rattle.normal_laws.proofs.existence.units.Alike.{formals-same, alike-same}
 use Rattle.normal_laws.proofs.existence.units.Seen.{is_task, IsSeen, AreSeen, tasks_of_decl, decl-seen, first-seen, others-before}
 use Rattle.common_lemmas.proofs.Lists.{all_back, all_front, find_front, found_none, not_empty}
 use Rattle.common_lemmas.proofs.Options.{some_same}
@@ -373,42 +373,47 @@ module _ (mode : Mode) (p : PProgram) where
     unfolding front main
     fits = decls-fit p.decls [] (check.body_names p.decls) s0 c0 refl (declared_once p types).1 (first-seen p.name) has.2 (all_front IsMet (decls_sites s0 p.decls) _ places) (all_front met front main check-places).1
 
-    main-conforms : InBody (Conforms g 0) p.body
-    unfolding front main
-    main-conforms =
-        in-body (asked (Conforms g 0)) (Conforms g 0) (λ h k. k)
-        (body-as-asked (asked (Conforms g 0)) (tokens p.names) (known (after_decls s0 p.decls).own None)
-        (gives (after_decls s0 p.decls).own None (Conforms g 0) (λ s c n h k l q. absurd (true≢false (sym (ap (λ o. is_own_entry o h.entry.name) (sym k.unit_is) ∙ own-entry mode p.names c n h q)))))
-        p.body (inner_scope (after_decls s0 p.decls)) (check.after_decls c0 p.decls) 1
-        record { own = refl; unit_is = decls-check-own p.decls c0 } has.3 (all_back IsMet (decls_sites s0 p.decls) _ places) (all_back met front main check-places))
-
     units-named : AllByRecursion (λ (x : NumberedTask). unit_named p x.unit.name.name ≡ Some x.unit) (numbered_tasks T p)
     units-named =
         let Q = λ (t : PTask). unit_named p t.name.name ≡ Some t in
         numbered-tasks-all Q T (task_names_of p) (parts-all Q p.decls [] tt (named-tasks p.decls fits))
 
-    head-conforms : (n : ℕ) (x : NumberedTask) → IsTaskOf p T n x → (h : PHead) → HeadFits x.unit h → Conforms g n h
-    head-conforms n x is h k =
-        let e = entry-there p T n x h.entry.name k.entry is k.named in
-        subst (λ fs. AreAlike (parameters_of T fs) (parameters_of T h.formals)) (sym e.formals) (formals-alike T k.around k.entry.formals h.formals k.same)
+    module _ (H : ℕ → PHead → Type 0) (from : (n : ℕ) (h : PHead) → HasFormals g n h → H n h) where
+      main-conforms : InBody (H 0) p.body
+      unfolding front main
+      main-conforms =
+          in-body (asked (H 0)) (H 0) (λ h k. k)
+          (body-as-asked (asked (H 0)) (tokens p.names) (known (after_decls s0 p.decls).own None)
+          (gives (after_decls s0 p.decls).own None (H 0) (λ s c n h k l q. absurd (true≢false (sym (ap (λ o. is_own_entry o h.entry.name) (sym k.unit_is) ∙ own-entry mode p.names c n h q)))))
+          p.body (inner_scope (after_decls s0 p.decls)) (check.after_decls c0 p.decls) 1
+          record { own = refl; unit_is = decls-check-own p.decls c0 } has.3 (all_back IsMet (decls_sites s0 p.decls) _ places) (all_back met front main check-places))
 
-    numbered-task-conforms : (n : ℕ) (o : Option NumberedTask) → slice_get (numbered_tasks T p) n ≡ o → (info : Option TaskInfo) → slice_get (map (info_of_task p.names) (numbered_tasks T p)) n ≡ info → InBody (Conforms g (suc n)) (unit_of_info p info).body
-    numbered-task-conforms n o e None f = (tt, tt)
-    numbered-task-conforms n None e (Some info) f = absurd (none-some info (sym (mapped-none (numbered_tasks T p) n e) ∙ f))
-      where
-        mapped-none : (xs : List NumberedTask) (k : ℕ) → slice_get xs k ≡ None → slice_get (map (info_of_task p.names) xs) k ≡ None
-        mapped-none [] k q = refl
-        mapped-none (y ∷ ys) zero q = absurd (none-some y (sym q))
-        mapped-none (y ∷ ys) (suc k) q = mapped-none ys k q
-    numbered-task-conforms n (Some x) e (Some info) f =
-        let is : IsTaskOf p T (suc n) x = record { place = n; number = refl; numbered_task = e; unit = place-all (λ (y : NumberedTask). unit_named p y.unit.name.name ≡ Some y.unit) (numbered_tasks T p) n x units-named e } in
-        let same : info_of_task p.names x ≡ info = some_same (sym (mapped-at p T (numbered_tasks T p) n x e) ∙ f) in
-        subst (λ (i : TaskInfo). InBody (Conforms g (suc n)) (unit_among p.decls i.unit).body) same
-        (among-fits (Conforms g (suc n)) p.decls x.unit.name.name x.unit fits is.unit (head-conforms (suc n) x is))
+      head-conforms : (n : ℕ) (x : NumberedTask) → IsTaskOf p T n x → (h : PHead) → HeadFits x.unit h → H n h
+      head-conforms n x is h k =
+          let e = entry-there p T n x h.entry.name k.entry is k.named in
+          from n h (subst (λ fs. parameters_of T h.formals ≡ parameters_of T fs) (sym e.formals) (formals-same T k.around k.entry.formals h.formals k.same))
+
+      numbered-task-conforms : (n : ℕ) (o : Option NumberedTask) → slice_get (numbered_tasks T p) n ≡ o → (info : Option TaskInfo) → slice_get (map (info_of_task p.names) (numbered_tasks T p)) n ≡ info → InBody (H (suc n)) (unit_of_info p info).body
+      numbered-task-conforms n o e None f = (tt, tt)
+      numbered-task-conforms n None e (Some info) f = absurd (none-some info (sym (mapped-none (numbered_tasks T p) n e) ∙ f))
+        where
+          mapped-none : (xs : List NumberedTask) (k : ℕ) → slice_get xs k ≡ None → slice_get (map (info_of_task p.names) xs) k ≡ None
+          mapped-none [] k q = refl
+          mapped-none (y ∷ ys) zero q = absurd (none-some y (sym q))
+          mapped-none (y ∷ ys) (suc k) q = mapped-none ys k q
+      numbered-task-conforms n (Some x) e (Some info) f =
+          let is : IsTaskOf p T (suc n) x = record { place = n; number = refl; numbered_task = e; unit = place-all (λ (y : NumberedTask). unit_named p y.unit.name.name ≡ Some y.unit) (numbered_tasks T p) n x units-named e } in
+          let same : info_of_task p.names x ≡ info = some_same (sym (mapped-at p T (numbered_tasks T p) n x e) ∙ f) in
+          subst (λ (i : TaskInfo). InBody (H (suc n)) (unit_among p.decls i.unit).body) same
+          (among-fits (H (suc n)) p.decls x.unit.name.name x.unit fits is.unit (head-conforms (suc n) x is))
+
+      -- What holds of each accept with the formals of its entry holds of each accept in the body of each task.
+      pub heads-hold : (n : ℕ) → InBody (H n) (unit_of p numbers n).body
+      heads-hold zero = main-conforms
+      heads-hold (suc n) =
+          subst (λ (b : Bool). InBody (H (suc n)) (if b then record { in_main = true; decls = p.decls; body = p.body } else unit_of_info p (task_at numbers (suc n))).body)
+          (sym (ne_eqb (suc n) 0 (λ e. omega (arith, e)))) (numbered-task-conforms n (slice_get (numbered_tasks T p) n) refl (slice_get (map (info_of_task p.names) (numbered_tasks T p)) n) refl)
 
     -- Each accept in the body of each task conforms to its entry.
     pub conforms : (n : ℕ) → InBody (Conforms g n) (unit_of p numbers n).body
-    conforms zero = main-conforms
-    conforms (suc n) =
-        subst (λ (b : Bool). InBody (Conforms g (suc n)) (if b then record { in_main = true; decls = p.decls; body = p.body } else unit_of_info p (task_at numbers (suc n))).body)
-        (sym (ne_eqb (suc n) 0 (λ e. omega (arith, e)))) (numbered-task-conforms n (slice_get (numbered_tasks T p) n) refl (slice_get (map (info_of_task p.names) (numbered_tasks T p)) n) refl)
+    conforms n = heads-hold (Conforms g) (λ k h e. alike-same _ _ e) n

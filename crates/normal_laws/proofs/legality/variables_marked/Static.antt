@@ -1,5 +1,5 @@
 -- A static subtype of plain names has only names with a value or a mark in the table, which no inner scope hides.
-use Rattle.std.proofs.Common.{◌≡◌, ℕ, Bool, true, false, ◌||◌, ◌&&◌, IfSome, is_some, Option, Some, None, sym, ap, ◌∙◌, true≢false}
+use Rattle.std.proofs.Common.{◌≡◌, ℕ, Bool, true, ◌||◌, ◌&&◌, IfSome, is_some, Option, Some, None, sym, ap, ◌∙◌, true≢false}
 use Rattle.common_lemmas.proofs.Truth.{and_left, and_right, or_true}
 use Rattle.ada_tree.specs.declared.naming.NameId.{NameId}
 use Rattle.ada_tree.specs.TypeTable.{TypeTable}

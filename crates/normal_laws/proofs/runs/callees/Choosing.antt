@@ -43,7 +43,7 @@ use Rattle.normal_laws.specs.runs.floors.Declared.{dues_of}
 use Rattle.normal_laws.proofs.runs.floors.Actuals.{held-value}
 use Rattle.normal_laws.proofs.runs.floors.Preludes.{prelude, reaches_to}
 use Rattle.normal_laws.proofs.runs.floors.Static.{moving-is, callee-stays}
-use Rattle.normal_laws.specs.runs.callees.Callees.{Chosen, chosen_with, the_chosen, MeetsCallee, meets_task, meets_raise}
+use Rattle.normal_laws.specs.runs.callees.inner.Callees.{Chosen, chosen_with, the_chosen, MeetsCallee, meets_task, meets_raise}
 
 -- ---- one checked value, and what is done with it
 

@@ -18,7 +18,7 @@ use Rattle.task_laws.specs.translation.Controls.{task_in, AreAround}
 use Rattle.normal_laws.specs.runs.floors.Meetings.{AreValues}
 use Rattle.normal_laws.specs.runs.floors.Preludes.{Reaches, reaches_here, reaches_by}
 use Rattle.normal_laws.specs.runs.floors.inner.Met.{Catches, AreBack, CallMet}
-use Rattle.normal_laws.specs.runs.calls.Returns.{HasCall, has_conditional, has_timed}
+use Rattle.normal_laws.specs.runs.calls.inner.Returns.{HasCall, has_conditional, has_timed}
 
 -- the form of a conditional or timed call
 pub data Form : Type 0 where

@@ -40,8 +40,8 @@ use Rattle.normal_laws.specs.runs.floors.Declared.{HaveSubtypes, subtype_then, d
 use Rattle.normal_laws.proofs.runs.floors.Declared.{subtypes-fit, subtypes-first, subtypes-second, kept-dues, kept-length}
 use Rattle.normal_laws.proofs.runs.floors.Actuals.{kept-due, actuals-due, due-append, openings-are, held-value, held-openings}
 use Rattle.normal_laws.proofs.runs.floors.Static.{moving-is, callee-stays, entry-same, entry-named, family-same}
-use Rattle.normal_laws.specs.runs.callees.Callees.{the_chosen, chosen_with, MeetsCallee, meets_task, meets_raise}
-use Rattle.normal_laws.specs.runs.calls.Calls.{IsEntryCalled, MeetsCall, meets_call, meets_none}
+use Rattle.normal_laws.specs.runs.callees.inner.Callees.{the_chosen, chosen_with, MeetsCallee, meets_task, meets_raise}
+use Rattle.normal_laws.specs.runs.calls.inner.Calls.{IsEntryCalled, MeetsCall, meets_call, meets_none}
 use Rattle.normal_laws.proofs.runs.callees.Choosing.{one-due, then-then, callee-comes}
 use Rattle.normal_laws.proofs.runs.calls.Formals.{formals-slots, marks-same}
 

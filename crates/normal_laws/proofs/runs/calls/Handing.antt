@@ -29,8 +29,8 @@ use Rattle.normal_laws.specs.runs.floors.inner.Actuals.{AreSlots, no_slots, slot
 use Rattle.normal_laws.specs.runs.floors.inner.Met.{AreBack, in_back, one_back}
 use Rattle.normal_laws.proofs.runs.floors.Cells.{named-set_other, cell-set, cell-kept}
 use Rattle.normal_laws.proofs.runs.floors.Preludes.{there-set}
-use Rattle.normal_laws.specs.runs.calls.Calls.{IsEntryCalled}
-use Rattle.normal_laws.specs.runs.calls.Returns.{HoldBack, back_over, back_done, back_in, back_give, back_both, HasCall, has_plain, has_conditional, has_timed, AreFinals, finals_over, finals_done, final_in, final_give, final_both, gone_back}
+use Rattle.normal_laws.specs.runs.calls.inner.Calls.{IsEntryCalled}
+use Rattle.normal_laws.specs.runs.calls.inner.Returns.{HoldBack, back_over, back_done, back_in, back_give, back_both, HasCall, has_plain, has_conditional, has_timed, AreFinals, finals_over, finals_done, final_in, final_give, final_both, gone_back}
 use Rattle.common_lemmas.proofs.Numbers.{unequal_above}
 
 -- ---- the values that come back

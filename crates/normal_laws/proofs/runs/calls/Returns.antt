@@ -28,7 +28,7 @@ use Rattle.task_laws.specs.translation.Floors.{IsTranslation}
 use Rattle.task_laws.proofs.translation.Frames.{sees-alike, set-alike}
 use Rattle.task_laws.proofs.translation.Locals.{go-there, raise-there}
 use Rattle.normal_laws.specs.runs.floors.Preludes.{reaches_here, IsCell, Added}
-use Rattle.normal_laws.specs.runs.calls.Returns.{HoldBack, back_over, back_done, back_in, back_give, back_both, gone_back}
+use Rattle.normal_laws.specs.runs.calls.inner.Returns.{HoldBack, back_over, back_done, back_in, back_give, back_both, gone_back}
 use Rattle.normal_laws.specs.runs.floors.inner.Met.{Catches}
 use Rattle.normal_laws.proofs.runs.floors.Cells.{named-set_other, cell-kept, apart-old}
 use Rattle.normal_laws.proofs.runs.floors.Actuals.{held-value}

@@ -38,8 +38,8 @@ use Rattle.normal_laws.specs.runs.floors.inner.Met.{CallMet, at_raise, at_call, 
 use Rattle.normal_laws.proofs.runs.floors.Actuals.{held-value}
 use Rattle.normal_laws.proofs.runs.floors.Preludes.{prelude, reaches_to}
 use Rattle.normal_laws.proofs.runs.floors.Declared.{subtypes-first, subtypes-second}
-use Rattle.normal_laws.specs.runs.calls.Calls.{IsEntryCalled, MeetsCall, meets_call, meets_none}
-use Rattle.normal_laws.specs.runs.calls.Returns.{HoldBack}
+use Rattle.normal_laws.specs.runs.calls.inner.Calls.{IsEntryCalled, MeetsCall, meets_call, meets_none}
+use Rattle.normal_laws.specs.runs.calls.inner.Returns.{HoldBack}
 use Rattle.normal_laws.proofs.runs.callees.Choosing.{reaches-behind}
 use Rattle.normal_laws.proofs.runs.calls.Calling.{call-comes}
 use Rattle.normal_laws.proofs.runs.calls.Handing.{hold-behind}

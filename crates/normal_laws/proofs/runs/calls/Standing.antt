@@ -30,8 +30,8 @@ use Rattle.normal_laws.specs.runs.floors.Preludes.{Reaches, reaches_here, Added,
 use Rattle.normal_laws.specs.runs.floors.Declared.{HaveSubtypes}
 use Rattle.normal_laws.specs.runs.floors.inner.Met.{Catches, AreBack, CallMet, at_raise, at_call, Comes}
 use Rattle.normal_laws.proofs.runs.floors.Declared.{subtypes-fit}
-use Rattle.normal_laws.specs.runs.calls.Calls.{IsEntryCalled, MeetsCall, meets_call, meets_none}
-use Rattle.normal_laws.specs.runs.calls.Returns.{HoldBack, HasCall, has_plain, gone_back}
+use Rattle.normal_laws.specs.runs.calls.inner.Calls.{IsEntryCalled, MeetsCall, meets_call, meets_none}
+use Rattle.normal_laws.specs.runs.calls.inner.Returns.{HoldBack, HasCall, has_plain, gone_back}
 use Rattle.normal_laws.proofs.runs.callees.Choosing.{reaches-behind}
 use Rattle.normal_laws.proofs.runs.calls.Calling.{lists-are, call-comes}
 use Rattle.normal_laws.proofs.runs.calls.CallForms.{Form, statement, form_of, other_of, has-call, stands-at, handed-at, other-at, form-met}

@@ -41,7 +41,7 @@ use Rattle.normal_laws.specs.runs.floors.inner.Met.{AbortMet, at_raise, at_abort
 use Rattle.normal_laws.proofs.runs.floors.Rows.{normal-images}
 use Rattle.normal_laws.proofs.runs.floors.Floors.{normal-translates}
 use Rattle.normal_laws.proofs.runs.floors.Declared.{begun-subtypes, subtypes-fit, kept-length}
-use Rattle.normal_laws.specs.runs.callees.Callees.{MeetsCallee, meets_task, meets_raise, chosen_with, the_chosen}
+use Rattle.normal_laws.specs.runs.callees.inner.Callees.{MeetsCallee, meets_task, meets_raise, chosen_with, the_chosen}
 use Rattle.normal_laws.proofs.runs.callees.Choosing.{callee-comes}
 use Rattle.normal_model.proofs.Declared.{declared_length, declared_joined}
 

@@ -15,6 +15,16 @@ use Rattle.syn_event.proofs.Nothing.{test_fails}
 use Rattle.legal_programs.specs.sites.Met.{IsCheckMet}
 use Rattle.common_lemmas.proofs.Lists.{all_back, all_front}
 
+-- ---- limits
+
+-- what keeps to a limit, and with one part more does not pass it
+pub one-more : (limit n : ℕ) → n ≤ limit → (nat_le n limit && nat_lt limit (n + 1)) ≡ false → n + 1 ≤ limit
+one-more limit n le e = ltb-false limit (n + 1) (right (nat_le n limit) (nat_lt limit (n + 1)) (le-leb n limit le) e)
+  where
+    right : (a b : Bool) → a ≡ true → (a && b) ≡ false → b ≡ false
+    right true b f g = g
+    right false b f g = cc
+
 module _ (names : List (List ℕ)) where
   abbrev At : List CheckSite → Type 0
   At xs = AllByRecursion (IsCheckMet Original names) xs
@@ -56,16 +66,9 @@ module _ (names : List (List ℕ)) where
 
   -- ---- alternatives
 
-  one-more : (n : ℕ) → n ≤ 32 → (nat_le n 32 && nat_lt 32 (n + 1)) ≡ false → n + 1 ≤ 32
-  one-more n le e = ltb-false 32 (n + 1) (right (nat_le n 32) (nat_lt 32 (n + 1)) (le-leb n 32 le) e)
-    where
-      right : (a b : Bool) → a ≡ true → (a && b) ≡ false → b ≡ false
-      right true b f g = g
-      right false b f g = cc
-
   pub few-alternatives : (c : CheckScope) (x : PAlts) (n : ℕ) → n ≤ 32 → At (numbered c Alternatives n (alt_places x)) → n + alts_count x ≤ 32
   few-alternatives c no_alt n le m = omega arith
   few-alternatives c (alt_then (alternative guard what s) l) n le m =
       let e : (nat_le n 32 && nat_lt 32 (n + 1)) ≡ false = test_fails (nat_le n 32 && nat_lt 32 (n + 1)) _ m.0.limits in
-      let h : n + 1 + alts_count l ≤ 32 = few-alternatives c l (n + 1) (one-more n le e) m.1 in
+      let h : n + 1 + alts_count l ≤ 32 = few-alternatives c l (n + 1) (one-more 32 n le e) m.1 in
       omega (arith, h)

@@ -2,9 +2,7 @@
 use Rattle.std.specs.Prelude.{pos, [], ◌∷◌, All, refl}
 use Rattle.std.proofs.lemmas.List.Elements.{All-from_recursion}
 use Rattle.ada_tree.specs.PlainExpr.{EInteger, RGiven}
-use Rattle.ada_tree.specs.PlainStmt.{PFormal}
 use Rattle.ada_tree.specs.Every.{Rules, EveryWord, EveryFormal, EveryEntry, EveryPriority}
-use Rattle.ada_static_rules.specs.Refusals.{types_in}
 use Rattle.syn_event.proofs.Weaker.{placed_tokens}
 use Rattle.legal_programs.specs.rewritten_values.Values.{old_names}
 use Rattle.normal_laws.specs.structure.placed.Example.{nowhere, word, formal, entry, passing}

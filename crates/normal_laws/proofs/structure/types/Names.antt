@@ -1,5 +1,5 @@
 -- The names that a normal form adds go behind the program's, and those of variables begin with DED_.
-use Rattle.std.proofs.Common.{◌≡◌, ℕ, zero, suc, ◌+◌, ◌<◌, Bool, true, false, not, ◌&&◌, ◌||◌, nat_lt, if◌then◌else◌, List, [], ◌∷◌, ◌++◌, length, find, position, slice_get, unwrap_or, codes, nat_eq, cond, Some, None, refl, sym, ap, ◌∙◌, true≢false, add-one}
+use Rattle.std.proofs.Common.{◌≡◌, ℕ, zero, suc, ◌<◌, Bool, true, false, not, ◌&&◌, ◌||◌, nat_lt, if◌then◌else◌, List, [], ◌∷◌, ◌++◌, length, find, position, slice_get, unwrap_or, codes, nat_eq, cond, Some, None, refl, sym, ap, ◌∙◌, true≢false, add-one}
 use Rattle.std.specs.List.{list_any, position_or_len, fold, starts_with}
 use Rattle.std.specs.Str.{bytes_eq}
 use Rattle.std.proofs.lemmas.Bool.{or_right, lt-ltb, ltb-true}

@@ -1,5 +1,5 @@
 -- A variable for the values of a range has the range's bounds.
-use Rattle.std.proofs.Common.{◌≡◌, ℕ, ◌==◌, true, false, [], unwrap_or, Option, Some, None, Result, Ok, Err, is_ok, sym, ap, ◌∙◌, true≢false}
+use Rattle.std.proofs.Common.{◌≡◌, ℕ, ◌==◌, true, [], unwrap_or, Option, Some, None, Result, Ok, Err, is_ok, sym, ap, ◌∙◌, true≢false}
 use Rattle.std.proofs.lemmas.Bool.{eqb-true}
 use Rattle.ada_tree.specs.declared.naming.Span.{Span}
 use Rattle.ada_tree.specs.declared.static_types.Mark.{Mark}

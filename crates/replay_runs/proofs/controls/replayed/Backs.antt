@@ -20,7 +20,7 @@ use Rattle.run_laws.specs.replaying.Rewritings.{Setting}
 use Rattle.run_laws.specs.replaying.Laws.{at_entry, back}
 use Rattle.replay_structure.specs.spots.Places.{text_spots}
 use Rattle.replay_structure.specs.spots.Laws.{IsInOrder}
-use Rattle.replay_structure.specs.spots.Origins.{HasOrigins, IsPlaced, meant}
+use Rattle.replay_structure.specs.spots.inner.Origins.{HasOrigins, IsPlaced, meant}
 use Rattle.replay_structure.proofs.spots.Backs.{IsOwnCall, back-same}
 use Rattle.replay_runs.specs.controls.replayed.Replaying.{IsFeasible, events_after, Replays}
 

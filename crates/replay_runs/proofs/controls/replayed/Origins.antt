@@ -34,7 +34,7 @@ use Rattle.replay_model.specs.ReplayTree.{last_task}
 use Rattle.replay_model.specs.ReplayNumbers.{plain_info, all_infos, added_infos, numbers_replayed}
 use Rattle.replay_structure.specs.spots.Places.{total, original_place, never_place, join_place, counts, entries_from, text_spots}
 use Rattle.replay_structure.specs.spots.Laws.{IsInOrder}
-use Rattle.replay_structure.specs.spots.Origins.{HasOrigins}
+use Rattle.replay_structure.specs.spots.inner.Origins.{HasOrigins}
 use Rattle.replay_structure.proofs.spots.Counted.{number-is}
 use Rattle.replay_structure.proofs.spots.First.{first, none, all-mapped}
 use Rattle.replay_structure.proofs.spots.Ordered.{normal_is_in_order}

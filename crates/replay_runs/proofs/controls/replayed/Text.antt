@@ -25,7 +25,7 @@ use Rattle.run_laws.specs.replaying.Rewritings.{Setting}
 use Rattle.run_laws.specs.replaying.Laws.{Controlled, back}
 use Rattle.replay_structure.specs.spots.Places.{text_spots}
 use Rattle.replay_structure.specs.spots.Laws.{IsInOrder}
-use Rattle.replay_structure.specs.spots.Origins.{HasOrigins, IsPlaced, meant}
+use Rattle.replay_structure.specs.spots.inner.Origins.{HasOrigins, IsPlaced, meant}
 use Rattle.replay_runs.specs.controls.replayed.Replaying.{Replays}
 use Rattle.replay_runs.proofs.controls.replayed.Controlled.{original_of, controlled-replays}
 use Rattle.replay_runs.proofs.controls.replayed.Events.{IsIn, IsOne, events-in}

@@ -6,6 +6,8 @@ use Rattle.ada_tree.specs.PlainProgram.{PProgram}
 use Rattle.syn_event.specs.DeclaredTasks.{decl_list}
 use Rattle.task_model.specs.Starting.{unit_of}
 use Rattle.task_laws.specs.statements.Each.{InBody}
+use Rattle.legal_programs.specs.literals.Colours.{coloured}
+use Rattle.normal_laws.specs.runs.forms.Choosing.{choosing}
 use Rattle.normal_laws.specs.existence.Laws.{IsLegalOriginal}
 use Rattle.replay_runs.specs.starts.Laws.{form_in}
 use Rattle.replay_runs.specs.controls.formed.Laws.{IsFormed}
@@ -46,3 +48,7 @@ pub record IsInNormalForm (p : PProgram) : Type 0 where
 -- So is that of each legal original.
 abbrev pub LegalNormalForms : Type 0
 LegalNormalForms = (p : PProgram) → IsLegalOriginal p → IsInNormalForm p
+
+-- So it is with two programs: one in which a variable chooses a member of an array of tasks, and one with an array of tasks whose index is an enumeration.
+abbrev pub IsMet : Type 0
+IsMet = IsInNormalForm choosing × IsInNormalForm coloured

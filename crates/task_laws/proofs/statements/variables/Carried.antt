@@ -1,9 +1,11 @@
 -- The laws of the variables of a task's unit, from their parts.
-use Rattle.task_model.specs.Frames.{brought}
+use Rattle.std.proofs.Common.{ℕ, Bool, [], ◌∷◌, subst}
+use Rattle.ada_value.specs.Variables.{Variables}
+use Rattle.task_model.specs.Frames.{Around, brought}
 use Rattle.task_model.specs.Tasks.{place_of, outer_of, vars_of}
 use Rattle.task_model.specs.Starting.{unit_of}
-use Rattle.task_laws.specs.statements.variables.Held.{DeclaresInner}
-use Rattle.task_laws.specs.statements.variables.Laws.{unit_objects, VariablesStart, VariablesStay, InnerStays, NamesMeanKept}
+use Rattle.task_laws.specs.statements.variables.Held.{DeclaresInner, FirstInner}
+use Rattle.task_laws.specs.statements.variables.Laws.{unit_objects, VariablesStart, VariablesStay, InnerStays, NamesMeanKept, LatestHasOne, CountsOne}
 use Rattle.task_laws.proofs.statements.Carried.{stays-so}
 use Rattle.task_laws.proofs.statements.variables.Kept.{all-kept, means-held}
 use Rattle.task_laws.proofs.statements.variables.Steps.{goes-stepped}
@@ -29,3 +31,10 @@ inner_stays inner t h = stays-so (DeclaresInner inner) (λ loops c d cs s i. tt)
 
 pub names_mean_kept : NamesMeanKept
 names_mean_kept inner start t id e h = means-held inner start (brought (place_of t)) (outer_of t) (vars_of t) id e h.0 h.1
+
+latest-one : (inner : ℕ → Bool) (vars : Variables) → FirstInner inner 1 vars → LatestHasOne vars
+latest-one inner [] h = tt
+latest-one inner (o ∷ vars) h = h.1
+
+pub counts_one : CountsOne
+counts_one inner start t name backwards last stmts h e = latest-one inner (vars_of t) (subst (λ (place : Around). FirstInner inner (brought place) (vars_of t)) e h.0)

@@ -1,6 +1,7 @@
 -- Variables that are assigned, or to which values come back, are kept.
 use Rattle.std.proofs.Common.{◌≡◌, ℕ, zero, suc, ◌==◌, Bool, true, false, if◌then◌else◌, List, [], ◌∷◌, ◌++◌, Option, Some, None, Result, Ok, Err, drop, length, map, refl, sym, ap, ◌∙◌, subst, true≢false}
 use Rattle.std.proofs.lemmas.Bool.{eqb-true}
+use Rattle.std.proofs.lemmas.List.{length-set}
 use Rattle.std.specs.List.{AllByRecursion}
 use Rattle.ada_tree.specs.declared.naming.NameId.{NameId}
 use Rattle.ada_tree.specs.declared.naming.Word.{Word}
@@ -24,7 +25,7 @@ use Rattle.task_laws.specs.statements.variables.Held.{KeepsValue, same_value, fi
 -- ---- one variable
 
 pub kept-itself : (o : Object) → IsKept o o
-kept-itself o = record { name = refl; limits = refl; value = same_value refl }
+kept-itself o = record { name = refl; limits = refl; count = refl; value = same_value refl }
 
 value-on : (o p q : Object) → p.limits ≡ o.limits → KeepsValue o p → KeepsValue p q → KeepsValue o q
 value-on o p q e (same_value h) (same_value k) = same_value (k ∙ h)
@@ -32,7 +33,7 @@ value-on o p q e (fitting_value h) (same_value k) = fitting_value (subst (Fits o
 value-on o p q e h (fitting_value k) = fitting_value (subst (λ l. Fits l (value_there q 0)) e k)
 
 kept-on : (o p q : Object) → IsKept o p → IsKept p q → IsKept o q
-kept-on o p q h k = record { name = k.name ∙ h.name; limits = k.limits ∙ h.limits; value = value-on o p q h.limits h.value k.value }
+kept-on o p q h k = record { name = k.name ∙ h.name; limits = k.limits ∙ h.limits; count = k.count ∙ h.count; value = value-on o p q h.limits h.value k.value }
 
 -- a value of its subtype at some place
 value-set : (o : Object) (k : ℕ) (v : Value) → Fits o.limits v → KeepsValue o (with_value o k v)
@@ -73,7 +74,7 @@ set-kept (o ∷ vars) id k v w h = by_test (set-kept vars id k v w) (o.name.0 ==
   where
     by_test : (checked_for (object_named vars id) v ≡ Ok w → AreKept vars (set_value vars id k w)) → (b : Bool) → checked_for (if b then Some o else object_named vars id) v ≡ Ok w →
         AreKept (o ∷ vars) (if b then with_value o k w ∷ vars else o ∷ set_value vars id k w)
-    by_test later true e = (record { name = refl; limits = refl; value = value-set o k w (checked_fits o.limits v w e) }, all-kept vars)
+    by_test later true e = (record { name = refl; limits = refl; count = length-set o.values k w; value = value-set o k w (checked_fits o.limits v w e) }, all-kept vars)
     by_test later false e = (kept-itself o, later e)
 
 -- ---- copying back
@@ -123,7 +124,7 @@ module _ (inner : ℕ → Bool) (start : Variables) where
   pub first-kept : (n : ℕ) (vars others : Variables) → AreKept vars others → FirstInner inner n vars → FirstInner inner n others
   first-kept zero vars others h k = tt
   first-kept (suc n) [] [] h k = tt
-  first-kept (suc n) (o ∷ vars) (p ∷ others) h k = (ap (λ (x : NameId). inner x.0) h.0.name ∙ k.0, first-kept n vars others h.1 k.1)
+  first-kept (suc n) (o ∷ vars) (p ∷ others) h k = (ap (λ (x : NameId). inner x.0) h.0.name ∙ k.0, h.0.count ∙ k.1, first-kept n vars others h.1 k.2)
   first-kept (suc n) [] (p ∷ others) h k = absurd h
   first-kept (suc n) (o ∷ vars) [] h k = absurd h
 
@@ -138,7 +139,7 @@ module _ (inner : ℕ → Bool) (start : Variables) where
   past-first : (n : ℕ) (vars : Variables) (id : NameId) → inner id.0 ≡ false → FirstInner inner n vars → object_named vars id ≡ object_named (drop n vars) id
   past-first zero vars id e h = refl
   past-first (suc n) [] id e h = refl
-  past-first (suc n) (o ∷ vars) id e h = by_test (o.name.0 == id.0) refl (past-first n vars id e h.1)
+  past-first (suc n) (o ∷ vars) id e h = by_test (o.name.0 == id.0) refl (past-first n vars id e h.2)
     where
       by_test : (b : Bool) → (o.name.0 == id.0) ≡ b → object_named vars id ≡ object_named (drop n vars) id → (if b then Some o else object_named vars id) ≡ object_named (drop n vars) id
       by_test true same later = absurd (true≢false (sym h.0 ∙ ap inner (eqb-true o.name.0 id.0 same) ∙ e))
@@ -159,8 +160,8 @@ module _ (inner : ℕ → Bool) (start : Variables) where
   pub opened-first : (types : TypeTable) (formals : List FormalParameter) (vs : List Value) (vars : Variables) → AllByRecursion (λ (f : FormalParameter). inner f.name.0 ≡ true) formals →
       FirstInner inner (length formals) (opened_objects types formals vs ++ vars)
   opened-first types [] vs vars h = tt
-  opened-first types (formal ∷ formals) [] vars h = (h.0, opened-first types formals [] vars h.1)
-  opened-first types (formal ∷ formals) (v ∷ vs) vars h = (h.0, opened-first types formals vs vars h.1)
+  opened-first types (formal ∷ formals) [] vars h = (h.0, refl, opened-first types formals [] vars h.1)
+  opened-first types (formal ∷ formals) (v ∷ vs) vars h = (h.0, refl, opened-first types formals vs vars h.1)
 
   -- the names of a declaration, in front of others
   named-all : (types : TypeTable) (f : PFormal) (ws : List Word) (rest : List Word) (more : List FormalParameter) →

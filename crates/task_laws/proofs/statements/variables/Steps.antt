@@ -85,7 +85,7 @@ module _ (inner : ℕ → Bool) (start : Variables) where
       either (is_empty_range r) (gone_to behind t)
       (pushed stmts (Loop name (Counting backwards (if backwards then r.first else r.last)) stmts) (steps.loop_parameter t w r.kind (if backwards then r.last else r.first) ∷ vars_of t) behind t)
       (goes behind t h)
-      (goes-pushed stmts (Loop name (Counting backwards (if backwards then r.first else r.last)) stmts) (steps.loop_parameter t w r.kind (if backwards then r.last else r.first) ∷ vars_of t) behind t (i, tt) refl h)
+      (goes-pushed stmts (Loop name (Counting backwards (if backwards then r.first else r.last)) stmts) (steps.loop_parameter t w r.kind (if backwards then r.last else r.first) ∷ vars_of t) behind t (i, refl, tt) refl h)
 
   goes-scheme : (name : Option Word) (scheme : Option PScheme) (stmts : PStmts) (s : Span) (behind : PStmts) (t : Task) → DeclaresInner inner [] (SLoop name scheme stmts s) → Holds t → Holds (steps.loop_step name scheme stmts behind t)
   goes-scheme name None stmts s behind t i h = goes-pushed stmts (Loop name Endless stmts) (vars_of t) behind t tt refl h
@@ -133,11 +133,11 @@ module _ (inner : ℕ → Bool) (start : Variables) where
   goes-left turns t [] e k h = h
   goes-left turns t (part ∷ parts) e k h = held-settled inner start parts part.rest part.place (drop (brought_by turns) (vars_of t)) k
 
-  -- the loop parameter one on keeps its name
+  -- the loop parameter one on keeps its name, and has one value
   goes-counted : (t : Task) (backwards : Bool) (last : ℤ) (name : Option Word) (stmts : PStmts) (vars : Variables) → Held inner start (Loop name (Counting backwards last) stmts) (outer_of t) vars →
       Held inner start (Loop name (Counting backwards last) stmts) (outer_of t) (steps.counted_on t backwards vars)
   goes-counted t backwards last name stmts [] h = h
-  goes-counted t backwards last name stmts (o ∷ vars) h = h
+  goes-counted t backwards last name stmts (o ∷ vars) h = ((h.0.0, refl, tt), h.1)
 
   goes-turn : (name : Option Word) (turns : Turns) (stmts : PStmts) (t : Task) → place_of t ≡ Loop name turns stmts → Holds t → Holds (steps.turn_step turns stmts t)
   goes-turn name Endless stmts t e h = goes stmts t h

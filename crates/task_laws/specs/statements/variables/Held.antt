@@ -1,5 +1,5 @@
 -- The variables of a task's unit, with those of loops and accept bodies in front of them (3.2.1, 5.5, 6.4.1, 9.5).
-use Rattle.std.specs.Prelude.{◌≡◌, ℕ, zero, suc, Bool, true, List, [], ◌∷◌, drop, Option, Some, None}
+use Rattle.std.specs.Prelude.{◌≡◌, ℕ, zero, suc, Bool, true, List, [], ◌∷◌, drop, length, Option, Some, None}
 use Rattle.std.specs.List.{AllByRecursion}
 use Rattle.ada_tree.specs.declared.naming.Word.{Word}
 use Rattle.ada_static_rules.specs.Sites.{all_names}
@@ -17,10 +17,11 @@ pub data KeepsValue (o p : Object) : Type 0 where
   same_value : value_there p 0 ≡ value_there o 0 → KeepsValue o p
   fitting_value : Fits o.limits (value_there p 0) → KeepsValue o p
 
--- the same variable, perhaps with another value of its subtype
+-- the same variable with as many values, perhaps with other ones of its subtype
 pub record IsKept (o p : Object) : Type 0 where
   pub name : p.name ≡ o.name
   pub limits : p.limits ≡ o.limits
+  pub count : length p.values ≡ length o.values
   pub value : KeepsValue o p
 
 -- each of these variables, in order
@@ -62,14 +63,14 @@ DeclaresInner inner loops _ = Unit {0}
 
 -- ---- the variables of a task
 
--- the first n variables have such names
+-- the first n variables have such names, and one value each
 abbrev pub FirstInner : (ℕ → Bool) → ℕ → Variables → Type 0
 FirstInner inner zero vars = Unit {0}
 FirstInner inner (suc n) [] = Unit {0}
-FirstInner inner (suc n) (o ∷ vars) = (inner o.name.0 ≡ true) × FirstInner inner n vars
+FirstInner inner (suc n) (o ∷ vars) = (inner o.name.0 ≡ true) × (length o.values ≡ 1) × FirstInner inner n vars
 
 module _ (inner : ℕ → Bool) (start : Variables) where
-  -- of frames, the inner ones first: what they have brought has such names, and behind it the variables at the start are kept
+  -- of frames, the inner ones first: what they have brought has such names and one value each, and behind it the variables at the start are kept
   abbrev pub HeldIn : List PFrame → Variables → Type 0
   HeldIn [] vars = AreKept start vars
   HeldIn (part ∷ parts) vars = FirstInner inner (brought part.place) vars × HeldIn parts (drop (brought part.place) vars)
@@ -78,6 +79,6 @@ module _ (inner : ℕ → Bool) (start : Variables) where
   abbrev pub HeldAt : Control → Type 0
   HeldAt c = FirstInner inner (brought c.top.place) c.vars × HeldIn c.outer (drop (brought c.top.place) c.vars)
 
-  -- The variables of a task: in front those of loops and accept bodies, with such names, and behind them those with which it has started, kept.
+  -- The variables of a task: in front those of loops and accept bodies, with such names and one value each, and behind them those with which it has started, kept.
   abbrev pub HoldsVariables : Task → Type 0
   HoldsVariables t = HeldAt t.control

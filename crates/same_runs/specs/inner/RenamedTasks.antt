@@ -10,7 +10,7 @@ use Rattle.task_model.specs.Tasks.{Task}
 use Rattle.task_model.specs.Waits.{Accepts, Delays, Open, Terminates}
 use Rattle.task_model.specs.declared.parameters.FormalParameter.{FormalParameter}
 use Rattle.same_runs.specs.Renamed.{KeepsTexts, renamed_body, renamed_decls, renamed_expr, renamed_handlers, renamed_head, renamed_id, renamed_program, renamed_stmts, renamed_types, renamed_word}
-use Rattle.same_runs.specs.RenamedValues.{renamed_raised, renamed_vars}
+use Rattle.same_runs.specs.inner.RenamedValues.{renamed_raised, renamed_vars}
 use Rattle.task_model.specs.Starting as starting
 
 -- the names for a program: none where it has none, as for a task that is none

@@ -1,0 +1,4 @@
+pub mod RenamedNumbers
+pub mod RenamedScopes
+pub mod RenamedTasks
+pub mod RenamedValues
