@@ -1,3 +1,4 @@
+pub mod Members
 pub mod Forming
 pub mod Tables
 pub mod Finding

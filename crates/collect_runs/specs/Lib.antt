@@ -6,3 +6,4 @@ pub mod imitating
 pub mod starts
 pub mod forms
 pub mod originals
+pub mod files

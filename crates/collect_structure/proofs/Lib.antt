@@ -1,3 +1,4 @@
 pub mod kept
 pub mod legal
+pub mod scopes
 pub mod typed

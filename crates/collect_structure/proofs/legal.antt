@@ -2,3 +2,10 @@ pub mod Checkable
 pub mod Values
 pub mod Placed
 pub mod Legal
+pub mod Joined
+pub mod Listed
+pub mod Types
+pub mod Free
+pub mod Indices
+pub mod Asked
+pub mod Bodies

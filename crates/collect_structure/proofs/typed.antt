@@ -7,3 +7,9 @@ pub mod Accepts
 pub mod Scopes
 pub mod Inside
 pub mod Typed
+pub mod Truths
+pub mod Added
+pub mod Flags
+pub mod Noted
+pub mod Recorder
+pub mod Language

@@ -6,3 +6,4 @@ pub mod placed
 pub mod checked
 pub mod declares_once
 pub mod typed
+pub mod scopes

@@ -9,8 +9,6 @@ use Rattle.task_model.specs.Machine.{ProgramWithInputs, rules_of, opening_of}
 use Rattle.task_model.specs.Tasks.{Task}
 use Rattle.task_model.specs.Starting.{started}
 use Rattle.task_model.proofs.Following.{opens}
-use Rattle.task_laws.specs.statements.Each.{HoldsOf}
-use Rattle.task_laws.proofs.statements.Carried.{starts-so}
 use Rattle.task_laws.proofs.statements.Blocks.{tasks_start_outside}
 use Rattle.task_laws.proofs.invariants.Beginning.{length_first, first_is}
 use Rattle.normal_laws.specs.existence.Laws.{IsLegalOriginal}
@@ -34,7 +32,7 @@ use Rattle.collect_runs.specs.telling.Laws.{TellsAlike}
 use Rattle.collect_runs.specs.imitating.Copies.{OpensText}
 use Rattle.collect_runs.specs.starts.Texts.{text_for, text_setting, recorder_number, texts_of}
 use Rattle.collect_runs.specs.starts.Laws.{IsCollected}
-use Rattle.collect_runs.specs.forms.Laws.{HasNoIndex, HasPlainEntries, IsText, text_opening, TextCollects, LegalTextsTell, LegalTextsCollect}
+use Rattle.collect_runs.specs.forms.Laws.{IsText, text_opening, TextCollects, LegalTextsTell, LegalTextsCollect}
 use Rattle.collect_runs.proofs.telling.Noting.{later}
 use Rattle.collect_runs.proofs.telling.Acting.{tells_alike}
 use Rattle.collect_runs.proofs.imitating.Imitating.{texts_collect}
@@ -47,12 +45,12 @@ use Rattle.collect_runs.proofs.forms.Formals.{legal_formals}
 use Rattle.collect_runs.proofs.forms.Bodies.{legal_records}
 use Rattle.collect_runs.proofs.forms.Starting.{legal_starts}
 
-module _ (p : PProgram) (kept : ℕ → Bool) (inputs : List (List ℤ)) (h : IsLegalOriginal p) (plain : HasPlainEntries p) (text : IsText p kept inputs) where
+module _ (p : PProgram) (kept : ℕ → Bool) (inputs : List (List ℤ)) (h : IsLegalOriginal p) (text : IsText p kept inputs) where
   abbrev x : Texts
   x = texts_of p kept
 
   abbrev f : Form (texts_of p kept)
-  f = legal_form p kept h plain text.told
+  f = legal_form p kept h text.told
 
   tells : TellsAlike f
   tells = tells_alike x text.told.can f
@@ -71,16 +69,13 @@ module _ (p : PProgram) (kept : ℕ → Bool) (inputs : List (List ℤ)) (h : Is
         variables = legal_units_start p h inputs t;
       }
 
-  plain-start : (t : ℕ) → HoldsOf HasNoIndex (started (form_setting p) inputs t)
-  plain-start t = starts-so HasNoIndex (form_setting p) inputs t (plain.accepts t)
-
   -- its image comes to where it is based on it
   starts-based : (t : ℕ) → t ≤ last_task (form_in p).numbers → ComesTo (IsBased f t (started (form_setting p) inputs t)) (started (text_setting p) inputs t)
   starts-based t l =
       let σ : Task = started (form_setting p) inputs t in
       let κ : Task = started (text_setting p) inputs t in
       let s = text.starts t l in
-      let pair : IsPair f t σ s.reached = record { own = (starts-of-form t l, plain-start t); alike = s.alike; left = left_there κ s.reached s.reach (tasks_start_outside (text_setting p) inputs t) } in
+      let pair : IsPair f t σ s.reached = record { own = starts-of-form t l; alike = s.alike; left = left_there κ s.reached s.reach (tasks_start_outside (text_setting p) inputs t) } in
       later s.reach (tells.comes t σ s.reached pair)
 
   abbrev setup : ProgramWithInputs
@@ -119,18 +114,18 @@ module _ (p : PProgram) (kept : ℕ → Bool) (inputs : List (List ℤ)) (h : Is
     }
 
 -- with what is asked of the text
-collects-as-asked : (p : PProgram) (kept : ℕ → Bool) (inputs : List (List ℤ)) → IsLegalOriginal p → first_abort p ≡ None → HasPlainEntries p → IsText p kept inputs → TextCollects p kept inputs
-collects-as-asked p kept inputs h none plain text =
+collects-as-asked : (p : PProgram) (kept : ℕ → Bool) (inputs : List (List ℤ)) → IsLegalOriginal p → first_abort p ≡ None → IsText p kept inputs → TextCollects p kept inputs
+collects-as-asked p kept inputs h none text =
     let known = legal_forms_are_collected p kept inputs h none text.recorder in
     record {
       collected = known;
-      collects = texts_collect (f p kept inputs h plain text) known.known (tells p kept inputs h plain text) (text_opening p inputs) (opens-text p kept inputs h plain text known);
+      collects = texts_collect (f p kept inputs h text) known.known (tells p kept inputs h text) (text_opening p inputs) (opens-text p kept inputs h text known);
     }
 
 pub legal_texts_tell : LegalTextsTell
 legal_texts_tell p h = record { few = few_tasks p h; can = legal_can_tell p h; formals = legal_formals p h }
 
 pub legal_texts_collect : LegalTextsCollect
-legal_texts_collect p inputs h none plain =
-    collects-as-asked p (kept_for p) inputs h none plain
+legal_texts_collect p inputs h none =
+    collects-as-asked p (kept_for p) inputs h none
     record { told = legal_texts_tell p h; recorder = legal_is_recorder p inputs h; starts = legal_starts p h inputs; records = legal_records p h inputs }

@@ -137,7 +137,7 @@ module _ (p : PProgram) (h : IsLegalOriginal p) where
       by_test false f = place-all IsOf F.entries (e - 1) x all-of f
 
   -- it has its number in the text
-  entry-stays : (e : ℕ) (x : EntryInfo) → entry_at F e ≡ Some x → entry_at U.numbers e ≡ Some x
+  pub entry-stays : (e : ℕ) (x : EntryInfo) → entry_at F e ≡ Some x → entry_at U.numbers e ≡ Some x
   entry-stays e x at = by_test (e == 0) at
     where
       by_test : (b : Bool) → (if b then None else slice_get F.entries (e - 1)) ≡ Some x → (if b then None else slice_get U.numbers.entries (e - 1)) ≡ Some x

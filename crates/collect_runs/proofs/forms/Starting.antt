@@ -205,7 +205,7 @@ none-in-main (decl_then (DIntIo w s) ds) name = none-in-main ds name
 none-in-main (decl_then (DPragma e s) ds) name = none-in-main ds name
 
 -- objects of other names are passed over
-all-passed : (X V : Variables) (id : NameId) → AllByRecursion (λ (o : Object). (o.name.0 == id.0) ≡ false) X → object_named (X ++ V) id ≡ object_named V id
+pub all-passed : (X V : Variables) (id : NameId) → AllByRecursion (λ (o : Object). (o.name.0 == id.0) ≡ false) X → object_named (X ++ V) id ≡ object_named V id
 all-passed [] V id h = refl
 all-passed (o ∷ X) V id h = ap (λ (b : Bool). cond b (Some o) (object_named (X ++ V) id)) h.0 ∙ all-passed X V id h.1
 

@@ -43,7 +43,7 @@ line-same : (header : List ℕ) (e : Event) → line (lines_with header) e ≡ e
 unfolding ◌⧺◌
 line-same header e = ap (λ (x : List ℕ). x ++ line_end) (front-same e)
 
-lines-same : (header : List ℕ) (events : List Event) → flat_map (line (lines_with header)) events ≡ each_text event_line events
+pub lines-same : (header : List ℕ) (events : List Event) → flat_map (line (lines_with header)) events ≡ each_text event_line events
 unfolding ◌⧺◌
 lines-same header [] = refl
 lines-same header (e ∷ events) = ap₂ (λ (x y : List ℕ). x ++ y) (line-same header e) (lines-same header events)

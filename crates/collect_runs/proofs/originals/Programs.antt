@@ -126,5 +126,5 @@ legal_forms_carry_over p q legal h inputs others agree =
     (collects_carry_over (lines_for p) (starting p others) (starting_form p others) (starting q others) (recorder_number p) (same-size p legal others) (legal_shows_same p legal others) (h others))
 
 pub legal_texts_collect_programs : LegalTextsCollectPrograms
-legal_texts_collect_programs p legal none plain =
-    legal_forms_carry_over p (text_for p) legal (λ inputs. collects-form p legal inputs (legal_texts_collect p inputs legal none plain))
+legal_texts_collect_programs p legal none =
+    legal_forms_carry_over p (text_for p) legal (λ inputs. collects-form p legal inputs (legal_texts_collect p inputs legal none))

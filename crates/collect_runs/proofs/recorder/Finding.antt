@@ -73,8 +73,8 @@ module _ (k : Recorder) (note : ℕ) (h : IsRecorder k note) (s : Spelled) (g : 
   pub argument-named : object_named V k.names.argument ≡ Some (formal_object k k.names.argument 0 (Number (pos s.argument)))
   argument-named = found V 2 (formal_object k k.names.argument 0 (Number (pos s.argument))) apart refl
 
-  pub index-named : object_named V k.names.index ≡ Some (formal_object k k.names.index 0 (Number s.index))
-  index-named = found V 3 (formal_object k k.names.index 0 (Number s.index)) apart refl
+  pub index-named : object_named V k.names.index ≡ Some (formal_object k k.names.index 0 s.index)
+  index-named = found V 3 (formal_object k k.names.index 0 s.index) apart refl
 
   pub owner-named : object_named V k.names.owner ≡ Some (formal_object k k.names.owner 0 (Number (pos s.owner)))
   owner-named = found V 4 (formal_object k k.names.owner 0 (Number (pos s.owner))) apart refl
@@ -119,7 +119,7 @@ module _ (k : Recorder) (note : ℕ) (h : IsRecorder k note) (s : Spelled) (g : 
   abbrev formals : Variables
   formals =
       formal_object k k.names.kind 0 (Number (pos s.kind)) ∷ formal_object k k.names.subject 0 (Number (pos s.subject)) ∷ formal_object k k.names.argument 0 (Number (pos s.argument))
-      ∷ formal_object k k.names.index 0 (Number s.index) ∷ formal_object k k.names.owner 0 (Number (pos s.owner)) ∷ []
+      ∷ formal_object k k.names.index 0 s.index ∷ formal_object k k.names.owner 0 (Number (pos s.owner)) ∷ []
 
   pub reply-set : (v : Value) → set_value V k.names.reply 0 v ≡ note_variables k s v b
   reply-set v = set-among formals (formal_object k k.names.reply 3 g) (kept k b) 0 v apart

@@ -16,9 +16,11 @@ use Rattle.collect_runs.proofs.recorder.Starting.{starts, waits, goes-on}
 
 module _ (k : Recorder) (note : ℕ) (h : IsRecorder k note) where
   written : (c : ℕ) (b : Book) (n : Note) (done : List ℕ) (left : List (List ℕ)) (t : Task) → IsWriting k c b n done left t → t.output ≡ text (lines_of k) b.events ++ done
-  written c b n done left t (AtLine e other ps is texts whole at) = ap (λ (u : Task). u.output) at
-  written c b n done left t (AtCall subject other is l none empty at) = ap (λ (u : Task). u.output) at ∙ sym (ap (λ (x : List ℕ). text (lines_of k) b.events ++ x) none ∙ append-nil (text (lines_of k) b.events))
-  written c b n done left t (AtTest subject e i other is l met none empty at) = ap (λ (u : Task). u.output) at ∙ sym (ap (λ (x : List ℕ). text (lines_of k) b.events ++ x) none ∙ append-nil (text (lines_of k) b.events))
+  written c b n done left t (AtLine e other i ps is texts whole at) = ap (λ (u : Task). u.output) at
+  written c b n done left t (AtCall subject other i is l none empty at) = ap (λ (u : Task). u.output) at ∙ sym (ap
+      (λ (x : List ℕ). text (lines_of k) b.events ++ x) none ∙ append-nil (text (lines_of k) b.events))
+  written c b n done left t (AtTest subject e z other i is l met none empty at) = ap (λ (u : Task). u.output) at ∙ sym (ap
+      (λ (x : List ℕ). text (lines_of k) b.events ++ x) none ∙ append-nil (text (lines_of k) b.events))
 
   takes : TakesNotes k note
   takes = record {

@@ -65,8 +65,11 @@ module _ (k : Recorder) (note : ℕ) (h : IsRecorder k note) (c : ℕ) (s : Spel
       (refl, ap (text_of k c (stmt_then (piece_put k Subject) rest) rest V output k.names.subject) (subject-named k note h s g b) ∙ wrote k c (stmt_then (piece_put k Subject) rest) rest V output (integer_text (pos s.subject)))
   piece-written Argument rest output =
       (refl, ap (text_of k c (stmt_then (piece_put k Argument) rest) rest V output k.names.argument) (argument-named k note h s g b) ∙ wrote k c (stmt_then (piece_put k Argument) rest) rest V output (integer_text (pos s.argument)))
-  piece-written Index rest output =
-      (refl, ap (text_of k c (stmt_then (piece_put k Index) rest) rest V output k.names.index) (index-named k note h s g b) ∙ wrote k c (stmt_then (piece_put k Index) rest) rest V output (integer_text s.index))
+  piece-written Index rest output = (
+    refl,
+    ap (text_of k c (stmt_then (piece_put k Index) rest) rest V output k.names.index) (index-named k note h s g b)
+        ∙ wrote k c (stmt_then (piece_put k Index) rest) rest V output (integer_text (position_of s.index)),
+  )
 
   -- the step by which the answer is given
   abbrev answering : Bool → PStmts → List ℕ → Result Variables Raised → Task

@@ -186,7 +186,7 @@ module _ (x : Texts) (can : CanTell x) (f : Form x) (t : ℕ) where
         let a = call-offers form_is.Timed (called (form x) V c) rests in
         acts-call form_is.Timed a.0 a.1 a.2
         (timed-tells x can f t i w c s r r' im v h l (rewritten walk l 0) m (rewritten walk m (after_stmts walk l 0)) d (rows (only_names x.programs) X j) (rows-behind l m s z) own rests)
-    at-stmt (old_accept hd m s h k j) own rests = accept-acts x can f t i w hd m (inside_maybe walk m 0) s h.formals (maybe-rows (only_names x.programs) X j) r r' im q q' o o' V W v own rests
+    at-stmt (old_accept hd m s h k j) own rests = accept-acts x can f t i w hd m (inside_maybe walk m 0) s h (maybe-rows (only_names x.programs) X j) r r' im q q' o o' V W v own rests
     at-stmt (old_wait alts m s ask h k) own rests =
         subst (λ l. ActsAlike f t (left (SWait alts m s)) (task_in (text x) t i w (control (in_front l r') q' o' W))) (sym (wait-image alts m s))
         (waits-act x can f t i w alts (inside_alts walk alts 0) m (inside_maybe walk m 0) s (alts-told x can f t h) (maybe-rows (only_names x.programs) X k) r r' im q q' o o' V W v own rests)

@@ -42,7 +42,7 @@ use Rattle.collect_runs.proofs.telling.Copying.{lists_old, copies_alike}
 use Rattle.collect_model.specs.Teller.{Teller}
 use Rattle.collect_model.specs.Noting.{before_call, has_call_else, has_expired, has_failed, number, own_number, own_note}
 use Rattle.collect_model.specs.Calling.{entry_called, member_called, call_note, call_telling, tasking_error, part_is, fails_late, parts_behind, plain_image, conditional_image, timed_image}
-use Rattle.collect_runs.specs.recorder.Telling.{spelled}
+use Rattle.collect_runs.specs.recorder.Telling.{member_of, spelled}
 use Rattle.collect_runs.specs.translation.Rows.{Telling}
 use Rattle.collect_runs.specs.translation.Floors.{IsVariableOf, HasVariables}
 use Rattle.collect_runs.proofs.translation.Rows.{are-images}
@@ -50,7 +50,7 @@ use Rattle.collect_runs.proofs.translation.Floors.{variables-there}
 use Rattle.collect_runs.specs.telling.Texts.{Texts, form, text, teller, unit_rows, unit_translation, program_of, IsInteger, CanTell, IsCallAlike}
 use Rattle.collect_runs.specs.telling.Forms.{Form}
 use Rattle.collect_runs.specs.telling.Meetings.{ComesTo, is_tasking, pends, IsBased, IsNoting, IsOwing, HandBackAlike, IsCalling}
-use Rattle.collect_runs.proofs.telling.Noting.{here, later, literal, hearing, going, notes}
+use Rattle.collect_runs.proofs.telling.Noting.{here, later, literal, hearing, going, notes, zero-told}
 use Rattle.collect_runs.proofs.telling.Hearing.{cell-worth, part-test, parted, part-goes, if-goes}
 use Rattle.collect_runs.proofs.telling.Pairs.{laws, row-comes, raise-comes}
 
@@ -177,20 +177,20 @@ module _ (x : Texts) (can : CanTell x) (f : Form x) (t : ℕ) where
 
       -- of this kind, with these statements behind it
       told : (k : ℕ) (rest : PStmts) (place : Around) (out : List PFrame) (said : Note) (other : ℕ) (IsSo : Bool → Task → Type 0) → IsInteger k →
-          spelled said other ≡ record { kind = k; subject = t; argument = entry_called X c; index = a.index; owner = owner_of x.main.numbers (entry_called X c) } →
+          ((v : Value) → spelled said other v ≡ record { kind = k; subject = t; argument = entry_called X c; index = v; owner = owner_of x.main.numbers (entry_called X c) }) → member_of said ≡ a.index →
           ((b : Bool) → ComesTo (IsSo b) (going x can t i w rest place out (hearing x b V'))) →
           IsNoting f said IsSo (task_in (text x) t i w (control (stmt_then (call_note X s k c) rest) place out V'))
-      told k rest place out said other IsSo small spells comes =
+      told k rest place out said other IsSo small spells named comes =
           notes x can t V' s k (own_number X s) (entry_called X c) (member_called X s c) (owner_of x.main.numbers (entry_called X c)) t a.index small
           (ap fits_integer a.number ∙ a.entry_fits) (ap (λ e. fits_integer (owner_of x.main.numbers e)) a.number ∙ ap fits_integer a.owner ∙ a.owner_fits)
-          (record { subject = literal (text x).types V' t s fits; subject_fits = fits; index = a.member s; index_fits = a.index_fits })
-          (there v) i w rest place out f said other IsSo spells comes
+          (record { subject = literal (text x).types V' t s fits; subject_fits = fits; index = a.member s })
+          (there v) i w rest place out f said other IsSo spells named comes
 
       -- TASKING_ERROR has been raised at the call: the image tells so, and raises it again
       fails : (e : Raised) → f.IsSo t (raised_there e σ) → IsNoting f (HasFailed t a.entry a.index) (λ b. IsBased f t (raised_there e σ)) (failing e V')
       fails e own' =
           told has_failed (one (raise_again s)) (Handling e) outside (HasFailed t a.entry a.index) (owner_of x.main.numbers (entry_called X c)) (λ b. IsBased f t (raised_there e σ)) refl
-          (ap (λ m. record { kind = has_failed; subject = t; argument = m; index = a.index; owner = owner_of x.main.numbers (entry_called X c) }) (sym a.number))
+          (λ v. ap (λ m. record { kind = has_failed; subject = t; argument = m; index = v; owner = owner_of x.main.numbers (entry_called X c) }) (sym a.number)) refl
           (λ b. later (reaches_by _ _ refl refl (reaches_here _)) (raise-comes x can t f e i w (stmt_then st r) no_stmt (under-heard b v) own'))
 
       -- ---- values come back, or an exception
@@ -302,7 +302,8 @@ module _ (x : Texts) (can : CanTell x) (f : Form x) (t : ℕ) where
       -- ---- the other part
 
       module _ (k : ℕ) (small : IsInteger k) (made : ℕ → ℤ → ℕ → Note) (d d' : PStmts) (img : Telling (only_names x.programs) X (in_front d r) (in_front d' r')) (own' : f.IsSo t (gone_to (in_front d r) σ))
-          (spells : (e : ℕ) (z : ℤ) (n : ℕ) → spelled (made e z n) 0 ≡ record { kind = k; subject = t; argument = e; index = z; owner = n })
+          (spells : (e : ℕ) (z : ℤ) (n : ℕ) (v : Value) → spelled (made e z n) 0 v ≡ record { kind = k; subject = t; argument = e; index = v; owner = n })
+          (named : (e : ℕ) (z : ℤ) (n : ℕ) → member_of (made e z n) ≡ z)
           (notes-so : (e : ℕ) (z : ℤ) → other_note (program_of x) t form' e z ≡ made e z (owner_of (form x).numbers e)) (part-so : other_in (program_of x) form' σ ≡ gone_to (in_front d r) σ) where
         -- with the answer the image raises TASKING_ERROR, or goes on with the other part
         goes-other : (b : Bool) → ComesTo (IsBased f t (done_by (program_of x) b TookOther σ)) (after (stmt_then (fails_late X s) (in_front d' r')) (hearing x b V'))
@@ -324,9 +325,10 @@ module _ (x : Texts) (can : CanTell x) (f : Form x) (t : ℕ) where
           notes = subst (λ z. IsNoting f (due_note (program_of x) t TookOther z) (λ b. IsBased f t (done_by (program_of x) b TookOther σ)) (after (stmt_then (call_note X s k c) (stmt_then (fails_late X s) (in_front d' r'))) V')) (sym offer-here)
               (subst (λ z. IsNoting f z (λ b. IsBased f t (done_by (program_of x) b TookOther σ)) (after (stmt_then (call_note X s k c) (stmt_then (fails_late X s) (in_front d' r'))) V')) (sym (notes-so a.entry a.index))
               (told k (stmt_then (fails_late X s) (in_front d' r')) q' o' (made a.entry a.index (owner_of (form x).numbers a.entry)) 0 (λ b. IsBased f t (done_by (program_of x) b TookOther σ)) small
-              (spells a.entry a.index (owner_of (form x).numbers a.entry)
-              ∙ ap (λ m. record { kind = k; subject = t; argument = a.entry; index = a.index; owner = m }) (sym a.owner)
-              ∙ ap (λ m. record { kind = k; subject = t; argument = m; index = a.index; owner = owner_of x.main.numbers m }) (sym a.number))
+              (λ u. spells a.entry a.index (owner_of (form x).numbers a.entry) u
+              ∙ ap (λ m. record { kind = k; subject = t; argument = a.entry; index = u; owner = m }) (sym a.owner)
+              ∙ ap (λ m. record { kind = k; subject = t; argument = m; index = u; owner = owner_of x.main.numbers m }) (sym a.number))
+              (named a.entry a.index (owner_of (form x).numbers a.entry))
               goes-other));
         }
 
@@ -361,8 +363,8 @@ module _ (x : Texts) (can : CanTell x) (f : Form x) (t : ℕ) where
         IsNoting f (BeforeCall t) (λ b. IsCalling f t σ) (after (stmt_then (own_note X s before_call 0) (stmt_then (SBlock (body (one st') watch) s) (in_front behind r'))) V')
     at-call V' v calls =
         notes x can t V' s before_call (own_number X s) 0 (number s 0) 0 t (pos 0) refl refl refl
-        (record { subject = literal (text x).types V' t s fits; subject_fits = fits; index = literal (text x).types V' 0 s refl; index_fits = refl })
-        (there v) i w (stmt_then (SBlock (body (one st') watch) s) (in_front behind r')) q' o' f (BeforeCall t) 0 (λ b. IsCalling f t σ) refl
+        (record { subject = literal (text x).types V' t s fits; subject_fits = fits; index = zero-told (text x).types V' s })
+        (there v) i w (stmt_then (SBlock (body (one st') watch) s) (in_front behind r')) q' o' f (BeforeCall t) 0 (λ b. IsCalling f t σ) (λ u. refl) refl
         (λ b. later (reaches_by _ _ refl refl (reaches_here _)) (here (within (one st') (hearing x b V')) (calls (hearing x b V') (under-heard b v))))
 
   -- ---- each form
@@ -410,7 +412,7 @@ module _ (x : Texts) (can : CanTell x) (f : Form x) (t : ℕ) where
           (null-row i w cst c Conditional l cis s r r' cbehind cst' (part_is X s 1) cis' q q' o o' V own old rests (in_front l r) (stmt_then cst r) l' (joined iml im) (under-parted 1 both) own'))
           (λ e z it. later (parts i w cst c Conditional l cis s r r' cbehind cst' (part_is X s 1) cis' q q' o o' V own old rests has_call_else l' d' refl V1 (there v1).part 2 refl)
           (here _ (owes-other i w cst c Conditional l cis s r r' cbehind cst' (part_is X s 1) cis' q q' o o' V own old rests (parted x 2 V1) (under-parted 2 v1) has_call_else refl (λ e1 z1 n. HasCallElse t e1 z1 n) d d' (joined imd im)
-          (f.stays t _ own).took_else (λ e1 z1 n. refl) (λ e1 z1. refl) refl)))
+          (f.stays t _ own).took_else (λ e1 z1 n u. refl) (λ e1 z1 n. refl) (λ e1 z1. refl) refl)))
           (λ e z it. absurd (true≢false (sym it ∙ ap (calls_in is_timed e z) (offer-here i w cst c Conditional l cis s r r' cbehind cst' (part_is X s 1) cis' q q' o o' V own old rests V1 v1)))))
 
     module _ (l l' d d' : PStmts) (m : ℕ) (iml : Telling (only_names x.programs) X l l') (imd : Telling (only_names x.programs) X d d') where
@@ -440,4 +442,4 @@ module _ (x : Texts) (can : CanTell x) (f : Form x) (t : ℕ) where
           (λ e z it. absurd (true≢false (sym it ∙ ap (calls_in is_conditional e z) (offer-here i w tst c Timed l tis s r r' tbehind tst' (part_is X s 1) tis' q q' o o' V own old rests V1 v1))))
           (λ e z it. later (parts i w tst c Timed l tis s r r' tbehind tst' (part_is X s 1) tis' q q' o o' V own old rests has_expired l' d' refl V1 (there v1).part 2 refl)
           (here _ (owes-other i w tst c Timed l tis s r r' tbehind tst' (part_is X s 1) tis' q q' o o' V own old rests (parted x 2 V1) (under-parted 2 v1) has_expired refl (λ e1 z1 n. HasExpired t e1 z1 n) d d' (joined imd im)
-          ((f.stays t _ own).took_delay 1) (λ e1 z1 n. refl) (λ e1 z1. refl) refl))))
+          ((f.stays t _ own).took_delay 1) (λ e1 z1 n u. refl) (λ e1 z1 n. refl) (λ e1 z1. refl) refl))))

@@ -27,7 +27,7 @@ use Rattle.replay_model.specs.Serving.{raise_again}
 use Rattle.collect_model.specs.Teller.{Teller}
 use Rattle.collect_model.specs.Noting.{at_finish, at_end, number, own_number, own_note}
 use Rattle.collect_model.specs.Serving.{finish_note}
-use Rattle.collect_runs.specs.recorder.Telling.{spelled}
+use Rattle.collect_runs.specs.recorder.Telling.{member_of, spelled}
 use Rattle.collect_runs.specs.translation.Rows.{Telling}
 use Rattle.collect_runs.specs.translation.Floors.{HasVariables, caller_parameter, body_frame, formals_there, frames_outside, vars_there, OpenAccept, CollectFloor, main_body, plain_body, handled_body, taken_handler, accept_body, AtTelling, over_floors, below_at}
 use Rattle.collect_runs.proofs.translation.Rows.{are-images}
@@ -35,7 +35,7 @@ use Rattle.collect_runs.proofs.translation.Floors.{levels, variables-open, varia
 use Rattle.collect_runs.specs.telling.Texts.{Texts, form, text, teller, unit_rows, unit_translation, IsInteger, CanTell}
 use Rattle.collect_runs.specs.telling.Forms.{Form}
 use Rattle.collect_runs.specs.telling.Meetings.{ComesTo, IsBased, IsNoting, IsEnding, IsLeaving}
-use Rattle.collect_runs.proofs.telling.Noting.{here, later, literal, hearing, going, notes}
+use Rattle.collect_runs.proofs.telling.Noting.{here, later, literal, hearing, going, notes, zero-told}
 use Rattle.collect_runs.proofs.telling.Pairs.{row-comes, raise-comes}
 
 -- ---- the formals of an accept body in front
@@ -159,18 +159,20 @@ module _ (x : Texts) (can : CanTell x) (f : Form x) (t : ℕ) where
   module _ (i : List ℤ) (w : List ℕ) where
     -- the image before a note of its own
     own-notes : IsInteger t → (kind : ℕ) → IsInteger kind → (s : Span) (rest : PStmts) (q : Around) (o : List PFrame) (V : Variables) → HasVariables x.main.added V → (said : Note) (IsSo : Bool → Task → Type 0) →
-        spelled said 0 ≡ record { kind = kind; subject = t; argument = 0; index = pos 0; owner = 0 } → ((v : Bool) → ComesTo (IsSo v) (going x can t i w rest q o (hearing x v V))) →
+        ((v : Value) → spelled said 0 v ≡ record { kind = kind; subject = t; argument = 0; index = v; owner = 0 }) → member_of said ≡ pos 0 → ((v : Bool) →
+        ComesTo (IsSo v) (going x can t i w rest q o (hearing x v V))) →
         IsNoting f said IsSo (task_in (text x) t i w (control (stmt_then (own_note X s kind 0) rest) q o V))
-    own-notes fits kind small s rest q o V there said IsSo spells comes =
+    own-notes fits kind small s rest q o V there said IsSo spells named comes =
         notes x can t V s kind (own_number X s) 0 (number s 0) 0 t (pos 0) small refl refl
-        (record { subject = literal (text x).types V t s fits; subject_fits = fits; index = literal (text x).types V 0 s refl; index_fits = refl })
-        there i w rest q o f said 0 IsSo spells comes
+        (record { subject = literal (text x).types V t s fits; subject_fits = fits; index = zero-told (text x).types V s })
+        there i w rest q o f said 0 IsSo spells named comes
 
     -- behind the statements of a unit
     pub unit-tells : (s : Span) (hs : PHandlers) (taken : Option Raised) (V V' : Variables) → HasVariables x.main.added V' → f.IsSo t (task_in (form x) t i w (control no_stmt (OwnBody hs taken) [] V)) →
         IsNoting f (AtEnd t) (λ v. IsLeaving f t (task_in (form x) t i w (control no_stmt (OwnBody hs taken) [] V))) (task_in (text x) t i w (control (one (own_note X s at_end 0)) (OwnBody no_handler None) [] V'))
     unit-tells s hs taken V V' there is =
-        own-notes (f.fits t _ is) at_end refl s no_stmt (OwnBody no_handler None) [] V' there (AtEnd t) _ refl (λ v. here _ (record { output = refl; offers = record { rests = refl; offers = refl } }))
+        own-notes (f.fits t _ is) at_end refl s no_stmt (OwnBody no_handler None) [] V' there (AtEnd t) _ (λ v. refl) refl
+        (λ v. here _ (record { output = refl; offers = record { rests = refl; offers = refl } }))
 
     module _ (k : ℕ) (a : OpenAccept (unit_rows x t) x.main.added (below_at (unit_rows x t) (teller x t) k)) where
       variables : HasVariables x.main.added (vars_there a)
@@ -191,11 +193,13 @@ module _ (x : Texts) (can : CanTell x) (f : Form x) (t : ℕ) where
       pub body-tells : f.IsSo t (ended None) →
           IsNoting f (AtFinish t) (λ v. IsEnding f t (ended None)) (task_in (text x) t i w (control (one (finish_note X a.span)) (Opened a.caller (formals_there a) None) (frames_outside a) (vars_there a)))
       body-tells is =
-          own-notes (f.fits t _ is) at_finish refl a.span no_stmt (Opened a.caller (formals_there a) None) (frames_outside a) (vars_there a) variables (AtFinish t) _ refl (λ v. here _ (heard None v is))
+          own-notes (f.fits t _ is) at_finish refl a.span no_stmt (Opened a.caller (formals_there a) None) (frames_outside a) (vars_there a) variables (AtFinish t) _
+          (λ v. refl) refl (λ v. here _ (heard None v is))
 
       pub left-tells : (e : Raised) → f.IsSo t (ended (Some e)) →
           IsNoting f (AtFinish t) (λ v. IsEnding f t (ended (Some e)))
           (task_in (text x) t i w (control (stmt_then (finish_note X a.span) (one (raise_again a.span))) (Handling e) (body_frame X a.span a.caller (formals_there a) ∷ frames_outside a) (vars_there a)))
       left-tells e is =
-          own-notes (f.fits t _ is) at_finish refl a.span (one (raise_again a.span)) (Handling e) (body_frame X a.span a.caller (formals_there a) ∷ frames_outside a) (vars_there a) variables (AtFinish t) _ refl
+          own-notes (f.fits t _ is) at_finish refl a.span (one (raise_again a.span)) (Handling e) (body_frame X a.span a.caller (formals_there a) ∷ frames_outside a)
+          (vars_there a) variables (AtFinish t) _ (λ v. refl) refl
           (λ v. later (reaches_by _ _ refl refl (reaches_here _)) (here _ (heard (Some e) v is)))

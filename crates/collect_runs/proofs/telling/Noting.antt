@@ -11,7 +11,7 @@ use Rattle.ada_static_rules.specs.StaticValue.{is_integer_value}
 use Rattle.ada_value.specs.declared.values.Value.{Value}
 use Rattle.ada_value.specs.declared.values.Value.TheVariants.{Number, Truth}
 use Rattle.ada_value.specs.declared.values.Raised.TheVariants as raised
-use Rattle.ada_value.specs.Values.{and_then, checked, lower_bound, limits_named, truth_limits}
+use Rattle.ada_value.specs.Values.{position_of, and_then, checked, lower_bound, limits_named, truth_limits}
 use Rattle.ada_value.specs.Variables.{Variables, checked_for, set_value}
 use Rattle.ada_value.specs.Evaluating.{evaluated}
 use Rattle.task_model.specs.declared.parameters.FormalParameter.{FormalParameter}
@@ -30,8 +30,8 @@ use Rattle.collect_model.specs.declared.AddedNames.{AddedNames}
 use Rattle.collect_model.specs.Noting.{note_actuals, note}
 use Rattle.collect_model.specs.Recording.{note_formals}
 use Rattle.collect_runs.specs.translation.Floors.{HasVariables}
-use Rattle.collect_runs.specs.recorder.Telling.{Spelled, spelled, note_values}
-use Rattle.collect_runs.specs.telling.Texts.{Texts, text, teller, IsInteger, CanTell}
+use Rattle.collect_runs.specs.recorder.Telling.{Spelled, member_of, spelled, note_values}
+use Rattle.collect_runs.specs.telling.Texts.{Texts, text, teller, IsInteger, CanTell, TellsMember}
 use Rattle.collect_runs.specs.telling.Forms.{Form}
 use Rattle.collect_runs.specs.telling.Meetings.{ComesTo, IsNoting}
 
@@ -43,13 +43,14 @@ here κ is = record { reached = κ; reach = reaches_here κ; is = is }
 pub later : {IsSo : Task → Type 0} {κ κ' : Task} → Reaches κ κ' → ComesTo IsSo κ' → ComesTo IsSo κ
 later way c = record { reached = c.reached; reach = reaches-behind way c.reach; is = c.is }
 
-pub comes-as : {Is Was : Task → Type 0} → ((κ : Task) → Was κ → Is κ) → {κ : Task} → ComesTo Was κ → ComesTo Is κ
-comes-as f c = record { reached = c.reached; reach = c.reach; is = f c.reached c.is }
-
 -- ---- literals
 
 pub literal : (T : TypeTable) (V : Variables) (n : ℕ) (s : Span) → IsInteger n → evaluated T V (EInteger n s) ≡ Ok (Number (pos n))
 literal T V n s fits = ap (λ c. if c then Ok (Number (pos n)) else Err raised.Numeric) fits
+
+-- so 0 is told by its literal
+pub zero-told : (T : TypeTable) (V : Variables) (s : Span) → TellsMember T V (EInteger 0 s) (pos 0)
+zero-told T V s = record { value = Number (pos 0); worth = literal T V 0 s refl; position = refl; fits = refl }
 
 -- the variables with the answer
 abbrev pub hearing : Texts → Bool → Variables → Variables
@@ -77,17 +78,17 @@ module _ (x : Texts) (can : CanTell x) (t : ℕ) where
   pub record Evaluates (V : Variables) (te ie : PExpr) (n : ℕ) (z : ℤ) : Type 0 where
     pub subject : evaluated (text x).types V te ≡ Ok (Number (pos n))
     pub subject_fits : IsInteger n
-    pub index : evaluated (text x).types V ie ≡ Ok (Number z)
-    pub index_fits : is_integer_value z ≡ true
+    pub index : TellsMember (text x).types V ie z
 
   -- one formal of mode `in`
-  pub taken : (V : Variables) (name : NameId) (e : PExpr) (z : ℤ) (fs : List FormalParameter) (es : List PExpr) (vs : List Value) → evaluated T V e ≡ Ok (Number z) → is_integer_value z ≡ true → openings T V fs es ≡ Ok vs →
-      openings T V (record { name = name; mode = Take; limits = limits_named T record { 0 = 0 } } ∷ fs) (e ∷ es) ≡ Ok (Number z ∷ vs)
-  taken V name e z fs es vs worth fits rest =
+  pub taken : (V : Variables) (name : NameId) (e : PExpr) (a : Value) (fs : List FormalParameter) (es : List PExpr) (vs : List Value) → evaluated T V e ≡ Ok a →
+      is_integer_value (position_of a) ≡ true → openings T V fs es ≡ Ok vs →
+      openings T V (record { name = name; mode = Take; limits = limits_named T record { 0 = 0 } } ∷ fs) (e ∷ es) ≡ Ok (a ∷ vs)
+  taken V name e a fs es vs worth fits rest =
       ap (λ r. and_then (and_then r (λ v. checked (limits_named T record { 0 = 0 }) v)) (λ v. and_then (openings T V fs es) (λ us. Ok (v ∷ us)))) worth
-      ∙ ap (λ l. and_then (checked l (Number z)) (λ v. and_then (openings T V fs es) (λ us. Ok (v ∷ us)))) can.integer
-      ∙ ap (λ c. and_then (if c then Ok (Number z) else Err raised.Constraint) (λ v. and_then (openings T V fs es) (λ us. Ok (v ∷ us)))) fits
-      ∙ ap (λ r. and_then r (λ us. Ok (Number z ∷ us))) rest
+      ∙ ap (λ l. and_then (checked l a) (λ v. and_then (openings T V fs es) (λ us. Ok (v ∷ us)))) can.integer
+      ∙ ap (λ c. and_then (if c then Ok a else Err raised.Constraint) (λ v. and_then (openings T V fs es) (λ us. Ok (v ∷ us)))) fits
+      ∙ ap (λ r. and_then r (λ us. Ok (a ∷ us))) rest
 
   module _ (V : Variables) (s : Span) (k : ℕ) (te : PExpr) (a : ℕ) (ie : PExpr) (o subject : ℕ) (index : ℤ) (kind_fits : IsInteger k) (argument_fits : IsInteger a) (owner_fits : IsInteger o)
       (is : Evaluates V te ie subject index) where
@@ -101,7 +102,7 @@ module _ (x : Texts) (can : CanTell x) (t : ℕ) where
     call = record { task = record { name = word_at s n.recorder; index = None }; entry = word_at s n.note; args = Some lists }
 
     abbrev values : List Value
-    values = Number (pos k) ∷ Number (pos subject) ∷ Number (pos a) ∷ Number index ∷ Number (pos o) ∷ lower_bound T (limits_named T record { 0 = 3 }) ∷ []
+    values = Number (pos k) ∷ Number (pos subject) ∷ Number (pos a) ∷ is.index.value ∷ Number (pos o) ∷ lower_bound T (limits_named T record { 0 = 3 }) ∷ []
 
     -- the formals of NOTE from each of the first five on
     abbrev formal : NameId → FormalParameter
@@ -138,13 +139,16 @@ module _ (x : Texts) (can : CanTell x) (t : ℕ) where
     abbrev e1 : List PExpr
     e1 = te ∷ e2
 
+    index-fits : is_integer_value (position_of is.index.value) ≡ true
+    index-fits = ap is_integer_value is.index.position ∙ is.index.fits
+
     opens : openings T V (parameters_of T (note_formals n can.span)) actuals ≡ Ok values
     opens =
-        taken V n.kind (EInteger k s) (pos k) f1 e1 _ (literal T V k s kind_fits) kind_fits
-        (taken V n.subject te (pos subject) f2 e2 _ is.subject is.subject_fits
-        (taken V n.argument (EInteger a s) (pos a) f3 e3 _ (literal T V a s argument_fits) argument_fits
-        (taken V n.index ie index f4 e4 _ is.index is.index_fits
-        (taken V n.owner (EInteger o s) (pos o) f5 e5 _ (literal T V o s owner_fits) owner_fits refl))))
+        taken V n.kind (EInteger k s) (Number (pos k)) f1 e1 _ (literal T V k s kind_fits) kind_fits
+        (taken V n.subject te (Number (pos subject)) f2 e2 _ is.subject is.subject_fits
+        (taken V n.argument (EInteger a s) (Number (pos a)) f3 e3 _ (literal T V a s argument_fits) argument_fits
+        (taken V n.index ie is.index.value f4 e4 _ is.index.worth index-fits
+        (taken V n.owner (EInteger o s) (Number (pos o)) f5 e5 _ (literal T V o s owner_fits) owner_fits refl))))
 
     -- what the call comes to
     pub note-called : called g V call ≡ Ok record { entry = x.note; index = pos 0; values = values }
@@ -178,17 +182,19 @@ module _ (x : Texts) (can : CanTell x) (t : ℕ) where
 
       -- So it tells this note, and comes to where it is to come to with each answer.
       pub notes : (f : Form x) (said : Note) (other : ℕ) (IsSo : Bool → Task → Type 0) →
-          spelled said other ≡ record { kind = k; subject = subject; argument = a; index = index; owner = o } →
+          ((v : Value) → spelled said other v ≡ record { kind = k; subject = subject; argument = a; index = v; owner = o }) → member_of said ≡ index →
           ((b : Bool) → ComesTo (IsSo b) (going i w rest q out (hearing x b V))) → IsNoting f said IsSo κ
-      notes f said other IsSo spells comes = record {
+      notes f said other IsSo spells named comes = record {
         offers = record {
           rests = ap (λ r. steps_at (call_stand Plain r)) note-called;
           offers = ap (λ r. offered (call_stand Plain r)) note-called;
         };
         tells = record {
           other = other;
+          index = is.index.value;
+          member = is.index.position ∙ sym named;
           opens_with = lower_bound T (limits_named T record { 0 = 3 });
-          values = ap (λ r. opening_values (Some r)) note-called ∙ sym (ap (λ (z : Spelled). note_values z (lower_bound T (limits_named T record { 0 = 3 }))) spells);
+          values = ap (λ r. opening_values (Some r)) note-called ∙ sym (ap (λ (z : Spelled). note_values z (lower_bound T (limits_named T record { 0 = 3 }))) (spells is.index.value));
         };
         answered = λ b j pending finals. subst (ComesTo (IsSo b)) (sym (goes-on b j pending finals)) (comes b);
       }

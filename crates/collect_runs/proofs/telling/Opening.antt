@@ -1,5 +1,5 @@
 -- An accept body opens: the acceptor tells that the call has been accepted, and then both are in the body.
-use Rattle.std.proofs.Common.{◌≡◌, ◌≤◌, arith, ℕ, suc, ℤ, pos, Bool, true, cond, List, [], ◌∷◌, ◌++◌, Some, None, Ok, refl, sym, ap, subst, ◌∙◌}
+use Rattle.std.proofs.Common.{◌≡◌, ◌≤◌, arith, ℕ, suc, ℤ, pos, Bool, cond, List, [], ◌∷◌, ◌++◌, Some, None, Ok, refl, sym, ap, subst, ◌∙◌}
 use Rattle.common_lemmas.proofs.Numbers.{equal_self}
 use Rattle.ada_tree.specs.declared.naming.Span.{Span}
 use Rattle.ada_tree.specs.PlainExpr.{EName}
@@ -8,7 +8,7 @@ use Rattle.ada_static_rules.specs.StaticValue.{is_integer_value}
 use Rattle.ada_value.specs.declared.values.Value.{Value}
 use Rattle.ada_value.specs.declared.values.Value.TheVariants.{Number}
 use Rattle.ada_value.specs.Variables.{Object, Variables, object_named}
-use Rattle.ada_value.specs.Evaluating.{name_value, evaluated}
+use Rattle.ada_value.specs.Evaluating.{name_value}
 use Rattle.ada_value.specs.Values.{lower_bound}
 use Rattle.task_model.specs.declared.parameters.FormalParameter.{FormalParameter}
 use Rattle.task_model.specs.Setting.{entry_of, member_index, parameters_of}
@@ -38,7 +38,7 @@ use Rattle.collect_runs.specs.translation.Rows.{Telling}
 use Rattle.collect_runs.specs.translation.Floors.{HasVariables, caller_parameter, OpenAccept, accept_body, body_over, over_floors, below_at}
 use Rattle.collect_runs.proofs.translation.Rows.{are-images}
 use Rattle.collect_runs.proofs.translation.Floors.{floor-row, up, variables-open, variables-at}
-use Rattle.collect_runs.specs.telling.Texts.{Texts, form, text, teller, unit_rows, unit_translation, IsInteger, CanTell, IsHeadAlike}
+use Rattle.collect_runs.specs.telling.Texts.{Texts, form, text, teller, unit_rows, unit_translation, IsInteger, CanTell, TellsMember, IsHeadAlike}
 use Rattle.collect_runs.specs.telling.Forms.{Form}
 use Rattle.collect_runs.specs.telling.Meetings.{ComesTo, IsBased, IsNoting}
 use Rattle.collect_runs.proofs.telling.Noting.{later, hearing, notes}
@@ -166,16 +166,16 @@ module _ (x : Texts) (can : CanTell x) (f : Form x) (t : ℕ) where
 
     -- the member is told where the formals are variables in front
     abbrev Member : List Object → Type 0
-    Member os = evaluated (text x).types (own ∷ (os ++ W)) (x.main.member (entry_of x.main.numbers t h.entry.name) s h.index) ≡ Ok (Number z)
+    Member os = TellsMember (text x).types (own ∷ (os ++ W)) (x.main.member (entry_of x.main.numbers t h.entry.name) s h.index) z
 
     same-formals : parameters_of (form x).types h.formals ≡ parameters_of (text x).types h.formals
     same-formals = formals-same Y (are-images (only_names b) X) can.types no_variables old
 
-    told : (is_integer_value z ≡ true) × Member (opened_objects (text x).types (parameters_of (text x).types h.formals) vs)
+    told : Member (opened_objects (text x).types (parameters_of (text x).types h.formals) vs)
     told = alike'.told z worth own refl vs s
 
     member-here : Member (opened_objects (form x).types fs vs)
-    member-here = subst Member (sym (opened-same b can.types fs vs)) (subst (λ gs. Member (opened_objects (text x).types gs vs)) (sym same-formals) told.1)
+    member-here = subst Member (sym (opened-same b can.types fs vs)) (subst (λ gs. Member (opened_objects (text x).types gs vs)) (sym same-formals) told)
 
     abbrev fits_integer : ℕ → Bool
     fits_integer n = is_integer_value (pos n)
@@ -207,10 +207,9 @@ module _ (x : Texts) (can : CanTell x) (f : Form x) (t : ℕ) where
           subject = ap (λ d. Ok (name_value (text x).types (cond d (Some own) (object_named (opened_objects (form x).types fs vs ++ W) x.main.added.caller)) x.main.added.caller)) (equal_self x.main.added.caller.0);
           subject_fits = fits;
           index = member-here;
-          index_fits = told.0;
         })
         variables i w rest (Opened c (caller_parameter x.main.added (text x).types ∷ fs) None) (frame row' q' ∷ o') f (HasBegun c e z) t (λ d. IsBased f t σ)
-        (ap (λ n. record { kind = has_begun; subject = c; argument = n; index = z; owner = t }) (sym alike'.number))
+        (λ u. ap (λ n. record { kind = has_begun; subject = c; argument = n; index = u; owner = t }) (sym alike'.number)) refl
         (λ d. subst (λ U. ComesTo (IsBased f t σ) (task_in (text x) t i w (settled (control rest (Opened c (caller_parameter x.main.added (text x).types ∷ fs) None) (frame row' q' ∷ o') U))))
         (sym (own-heard x can f t k c fs q q' o o' d own (opened_objects (form x).types fs vs ++ W) refl)) (more d))
 

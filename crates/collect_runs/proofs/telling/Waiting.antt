@@ -12,6 +12,7 @@ use Rattle.ada_tree.specs.Every.{alts_count}
 use Rattle.ada_tree.specs.PlainExpr.{PExpr}
 use Rattle.ada_tree.specs.PlainStmt.{PHead, PStmt, SAccept, SWait, PStmts, no_stmt, stmt_then, PMaybe, accepting, alternative, PAltKind, AAccept, ADelay, ATerminate, PAlts, no_alt, alt_then}
 use Rattle.ada_value.specs.declared.values.Raised.{Raised}
+use Rattle.ada_value.specs.declared.values.Value.{Value}
 use Rattle.ada_value.specs.declared.values.Value.TheVariants.{Number}
 use Rattle.ada_value.specs.Values.{and_then, is_true_value, checked, truth_limits}
 use Rattle.ada_value.specs.Variables.{Variables}
@@ -24,7 +25,7 @@ use Rattle.task_model.specs.Stands.{choices_stand, wait_stand, stand_at, steps_a
 use Rattle.task_model.specs.Rendezvous.{alternative_opened, accepted, took_else, took_delay}
 use Rattle.task_laws.specs.translation.Translations.{Rewriting, Translation}
 use Rattle.task_laws.specs.translation.OldNames.{OldOption, old_none, old_some}
-use Rattle.task_laws.specs.translation.OldTexts.{only_names, OldFormals, OldAlts, old_no_alt, old_alt, OldKind, old_accepts, old_delays, old_terminates}
+use Rattle.task_laws.specs.translation.OldTexts.{only_names, OldFormals, OldHead, OldAlts, old_no_alt, old_alt, OldKind, old_accepts, old_delays, old_terminates}
 use Rattle.task_laws.specs.translation.Images.{ImageMaybe, image_absent, image_present}
 use Rattle.task_laws.specs.translation.Controls.{task_in, Under, are_around}
 use Rattle.task_laws.proofs.translation.Results.{Both, both_ok, both_err, both_then}
@@ -38,7 +39,7 @@ use Rattle.collect_model.specs.Noting.{has_else, has_delay, number, own_number, 
 use Rattle.collect_model.specs.Serving.{accept_body as body_told, head_telling, accept_told, accept_image}
 use Rattle.collect_model.specs.Waiting.{alternatives_told, else_told, wait_image}
 use Rattle.collect_model.specs.CollectStmts.{collect_rewriter}
-use Rattle.collect_runs.specs.recorder.Telling.{spelled}
+use Rattle.collect_runs.specs.recorder.Telling.{member_of, spelled}
 use Rattle.collect_runs.specs.translation.Rows.{Telling, telling_none}
 use Rattle.collect_runs.proofs.translation.Kept.{still_kind, still_accept}
 use Rattle.collect_runs.proofs.translation.Rows.{rows, maybe-rows, are-images}
@@ -46,7 +47,7 @@ use Rattle.collect_runs.proofs.translation.Floors.{variables-there}
 use Rattle.collect_runs.specs.telling.Texts.{Texts, form, text, teller, unit_rows, unit_translation, IsInteger, CanTell, IsHeadAlike, HasHead, has_first, has_later, at_accept, at_wait}
 use Rattle.collect_runs.specs.telling.Forms.{Form}
 use Rattle.collect_runs.specs.telling.Meetings.{ComesTo, IsBased, IsNoting, IsOwing, HandOverAlike, ActsAlike}
-use Rattle.collect_runs.proofs.telling.Noting.{here, literal, notes}
+use Rattle.collect_runs.proofs.telling.Noting.{here, literal, notes, zero-told}
 use Rattle.collect_runs.proofs.telling.Pairs.{laws, row-comes}
 use Rattle.collect_runs.proofs.telling.Calling.{under-heard}
 use Rattle.collect_runs.proofs.telling.Opening.{opening-tells}
@@ -72,7 +73,8 @@ module _ (x : Texts) (can : CanTell x) (f : Form x) (t : ℕ) where
 
   pub data AltsTold : PAlts → PAlts → Type 0 where
     alts_none : AltsTold no_alt no_alt
-    alts_accept : (g : Option PExpr) (h : PHead) (m m' : PMaybe) (l l' : PStmts) (s : Span) (rest rest' : PAlts) → OldOption x.programs g → OldFormals x.programs h.formals → ImageMaybe (unit_rows x t) m m' → Telling (only_names x.programs) (teller x t) l l' →
+    alts_accept : (g : Option PExpr) (h : PHead) (m m' : PMaybe) (l l' : PStmts) (s : Span) (rest rest' : PAlts) → OldOption x.programs g → OldHead x.programs h →
+        ImageMaybe (unit_rows x t) m m' → Telling (only_names x.programs) (teller x t) l l' →
         AltsTold rest rest' → AltsTold (alt_then (alternative g (AAccept (accepting h m) l) s) rest) (alt_then (alternative g (AAccept (accepting h m') l') s) rest')
     alts_delay : (g : Option PExpr) (d : ℕ) (l l' : PStmts) (s : Span) (rest rest' : PAlts) → OldOption x.programs g → Telling (only_names x.programs) (teller x t) l l' → AltsTold rest rest' →
         AltsTold (alt_then (alternative g (ADelay d l) s) rest) (alt_then (alternative g (ADelay d l') s) rest')
@@ -102,7 +104,7 @@ module _ (x : Texts) (can : CanTell x) (f : Form x) (t : ℕ) where
           (alt_then (alternative g (AAccept (accepting h (inside_maybe (collect_rewriter X) m 0)) (rewritten (collect_rewriter X) l n)) s) (inside_alts (collect_rewriter X) rest (after_kind (collect_rewriter X) (AAccept (accepting h m) l) 0)))) (sym (still_accept X (accepting h m) 0))
           (subst (λ n. AltsTold (alt_then (alternative g (AAccept (accepting h m) l) s) rest) (alt_then (alternative g (AAccept (accepting h (inside_maybe (collect_rewriter X) m 0)) (rewritten (collect_rewriter X) l 0)) s) (inside_alts (collect_rewriter X) rest n)))
           (sym (still_kind X (AAccept (accepting h m) l) 0))
-          (alts_accept g h m (inside_maybe (collect_rewriter X) m 0) l (rewritten (collect_rewriter X) l 0) s rest (inside_alts (collect_rewriter X) rest 0) old oh.formals (maybe-rows (only_names x.programs) X om) (rows (only_names x.programs) X ol) ih))
+          (alts_accept g h m (inside_maybe (collect_rewriter X) m 0) l (rewritten (collect_rewriter X) l 0) s rest (inside_alts (collect_rewriter X) rest 0) old oh (maybe-rows (only_names x.programs) X om) (rows (only_names x.programs) X ol) ih))
       go (old_delays d l ol) ih =
           subst (λ n. AltsTold (alt_then (alternative g (ADelay d l) s) rest) (alt_then (alternative g (ADelay d (rewritten (collect_rewriter X) l 0)) s) (inside_alts (collect_rewriter X) rest n)))
           (sym (still_kind X (ADelay d l) 0)) (alts_delay g d l (rewritten (collect_rewriter X) l 0) s rest (inside_alts (collect_rewriter X) rest 0) old (rows (only_names x.programs) X ol) ih)
@@ -237,11 +239,11 @@ module _ (x : Texts) (can : CanTell x) (f : Form x) (t : ℕ) where
     guard-same (old_some e old) =
         ap (λ n. and_then n (λ z. and_then (checked truth_limits z) (λ u. Ok (is_true_value u)))) (values-alike y (laws x can t) σ κ (are_around t i w (stmt_then st r) (stmt_then st' r') v) e old)
 
-    alternatives-same : {alts alts' : PAlts} → AltsTold alts alts' → ((h : PHead) → HasHead h alts → IsHeadAlike x t h V W) → (k : ℕ) →
+    alternatives-same : {alts alts' : PAlts} → AltsTold alts alts' → ((h : PHead) → HasHead h alts → OldHead x.programs h → IsHeadAlike x t h V W) → (k : ℕ) →
         Both (AreSame OpenSame) (alternatives_open σ alts k) (alternatives_open κ (alternatives_told X alts' (k + 1)) k)
     alternatives-same alts_none heads k = both_ok [] [] same_none
     alternatives-same (alts_accept g h m m' l l' s rest rest' old of img row more) heads k =
-        opened-same (guard_holds σ g) (guard_holds κ g) (guard-same old) (accept-same h m m' l l' s of img row (heads h (has_first g m l s rest)))
+        opened-same (guard_holds σ g) (guard_holds κ g) (guard-same old) (accept-same h m m' l l' s of.formals img row (heads h (has_first g m l s rest) of))
         (alternatives-same more (λ h1 at. heads h1 (has_later g (AAccept (accepting h m) l) s rest at)) k)
     alternatives-same (alts_delay g d l l' s rest rest' old row more) heads k =
         opened-same (guard_holds σ g) (guard_holds κ g) (guard-same old) (both_ok (Delays (k + 1) d l) (Delays (k + 1) d (stmt_then (own_note X s has_delay (k + 1)) l')) (same_delay (k + 1) d l (stmt_then (own_note X s has_delay (k + 1)) l')))
@@ -275,13 +277,14 @@ module _ (x : Texts) (can : CanTell x) (f : Form x) (t : ℕ) where
     member-alike e z _ _ same_terminate = refl
 
     -- the image tells of what it has taken, before these statements
-    module _ (s : Span) (kind k : ℕ) (small : IsInteger kind) (few : IsInteger k) (said : Note) (spells : spelled said 0 ≡ record { kind = kind; subject = t; argument = k; index = pos 0; owner = 0 }) (l l' : PStmts) (row : Row l l')
+    module _ (s : Span) (kind k : ℕ) (small : IsInteger kind) (few : IsInteger k) (said : Note) (spells : (v : Value) →
+        spelled said 0 v ≡ record { kind = kind; subject = t; argument = k; index = v; owner = 0 }) (named : member_of said ≡ pos 0) (l l' : PStmts) (row : Row l l')
         (own' : f.IsSo t (gone_to (in_front l r) σ)) where
       part-notes : IsNoting f said (λ b. IsBased f t (gone_to (in_front l r) σ)) (behind (stmt_then (own_note X s kind k) (in_front l' r')) W)
       part-notes =
           notes x can t W s kind (own_number X s) k (number s 0) 0 t (pos 0) small few refl
-          (record { subject = literal (text x).types W t s (f.fits t σ own); subject_fits = f.fits t σ own; index = literal (text x).types W 0 s refl; index_fits = refl })
-          (variables-there Y X can.names v) i w (in_front l' r') q' o' f said 0 (λ b. IsBased f t (gone_to (in_front l r) σ)) spells
+          (record { subject = literal (text x).types W t s (f.fits t σ own); subject_fits = f.fits t σ own; index = zero-told (text x).types W s })
+          (variables-there Y X can.names v) i w (in_front l' r') q' o' f said 0 (λ b. IsBased f t (gone_to (in_front l r) σ)) spells named
           (λ b. row-comes x can t f i w (stmt_then st r) no_stmt (in_front l r) (in_front l' r') (joined row im) (under-heard x can f t b v) own')
 
     -- ---- a caller is accepted
@@ -375,7 +378,8 @@ module _ (x : Texts) (can : CanTell x) (f : Form x) (t : ℕ) where
 
   -- ---- accept statements
 
-  module _ (i : List ℤ) (w : List ℕ) (h : PHead) (m m' : PMaybe) (s : Span) (old : OldFormals x.programs h.formals) (img : ImageMaybe (unit_rows x t) m m') (r r' : PStmts) (im : Telling (only_names x.programs) (teller x t) r r')
+  module _ (i : List ℤ) (w : List ℕ) (h : PHead) (m m' : PMaybe) (s : Span) (old : OldHead x.programs h) (img : ImageMaybe (unit_rows x t) m m') (r r' : PStmts)
+      (im : Telling (only_names x.programs) (teller x t) r r')
       (q q' : Around) (o o' : List PFrame) (V W : Variables) (v : Under (unit_translation x t) q o V q' o' W) (own : f.IsSo t (task_in (form x) t i w (control (stmt_then (SAccept (accepting h m) s) r) q o V)))
       (rests : can_step (task_in (form x) t i w (control (stmt_then (SAccept (accepting h m) s) r) q o V)) ≡ false) where
     abbrev ast : PStmt
@@ -388,7 +392,7 @@ module _ (x : Texts) (can : CanTell x) (f : Form x) (t : ℕ) where
     aσ = task_in (form x) t i w (control (stmt_then ast r) q o V)
 
     alone : Both (AreSame (OpenSame i w ast ast' r r' im q q' o o' V W v own rests)) (open_at aσ ast) (open_at (task_in (text x) t i w (control (stmt_then ast' r') q' o' W)) ast')
-    alone = both_then (accept-same i w ast ast' r r' im q q' o o' V W v own rests h m m' no_stmt no_stmt s old img telling_none (f.heads t i w (control (stmt_then ast r) q o V) own rests h (at_accept m s r) W (sees-alike y (laws x can t) v)))
+    alone = both_then (accept-same i w ast ast' r r' im q q' o o' V W v own rests h m m' no_stmt no_stmt s old.formals img telling_none (f.heads t i w (control (stmt_then ast r) q o V) own rests h (at_accept m s r) old W (sees-alike y (laws x can t) v)))
         (λ a b same. both_ok (a ∷ []) (b ∷ []) (same_then a b [] [] same same_none))
 
     -- no delay is open at an accept statement
@@ -430,7 +434,7 @@ module _ (x : Texts) (can : CanTell x) (f : Form x) (t : ℕ) where
     else-notes : {n n' : PMaybe} → ImageMaybe (unit_rows x t) n n' → is_present n ≡ true → f.IsSo t (gone_to (in_front (stmts_or_none n) r) wσ) →
         IsNoting f (HasElse t) (λ b. IsBased f t (gone_to (in_front (stmts_or_none n) r) wσ)) (gone_to (in_front (stmts_or_none (else_told X s n')) r') wκ)
     else-notes image_absent e is = absurd (true≢false (sym e))
-    else-notes (image_present l l' row) e is = part-notes i w wst wst' r r' im q q' o o' V W v own rests s has_else 0 refl refl (HasElse t) refl l l' row is
+    else-notes (image_present l l' row) e is = part-notes i w wst wst' r r' im q q' o o' V W v own rests s has_else 0 refl refl (HasElse t) (λ u. refl) refl l l' row is
 
     takes-else : is_present m ≡ true → ComesTo (IsOwing f t TookElse wσ) (took_else wκ)
     takes-else e = here (took_else wκ) (record { output = refl; notes = else-notes img e ((f.stays t wσ own).took_else) })
@@ -444,12 +448,13 @@ module _ (x : Texts) (can : CanTell x) (f : Form x) (t : ℕ) where
           notes =
               subst (λ u. IsNoting f (HasDelay t k) (λ b. IsBased f t (took_delay k wσ)) (gone_to (in_front u r') wκ)) (sym d.there)
               (subst (λ u. f.IsSo t (gone_to (in_front u r) wσ) → IsNoting f (HasDelay t k) (λ b. IsBased f t (gone_to (in_front u r) wσ)) (gone_to (in_front (stmt_then (own_note X d.span has_delay k) d.stmts') r') wκ)) (sym d.here)
-              (λ is. part-notes i w wst wst' r r' im q q' o o' V W v own rests d.span has_delay k refl few (HasDelay t k) refl d.stmts d.stmts' d.rows is)
+              (λ is. part-notes i w wst wst' r r' im q q' o o' V W v own rests d.span has_delay k refl few (HasDelay t k) (λ u. refl) refl d.stmts d.stmts' d.rows is)
               ((f.stays t wσ own).took_delay k));
         })
 
     pub waits-act : ActsAlike f t (task_in (form x) t i w (control (stmt_then (SWait alts m s) r) q o V)) (task_in (text x) t i w (control (in_front (wait_image (teller x t) s alts' m') r') q' o' W))
     waits-act =
         wait-acts i w wst wst' r r' im q q' o o' V W v own rests (is_present m) refl (ap (λ b. wait_stand b (alternatives_open wκ (alternatives_told X alts' 1) 0)) (present-same img))
-        (alternatives-same i w wst wst' r r' im q q' o o' V W v own rests told (λ h at. f.heads t i w (control (stmt_then wst r) q o V) own rests h (at_wait alts m s r at) W (sees-alike y (laws x can t) v)) 0)
+        (alternatives-same i w wst wst' r r' im q q' o o' V W v own rests told
+        (λ h at oh. f.heads t i w (control (stmt_then wst r) q o V) own rests h (at_wait alts m s r at) oh W (sees-alike y (laws x can t) v)) 0)
         takes-else takes-delay

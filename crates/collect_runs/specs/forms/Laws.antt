@@ -1,12 +1,10 @@
 -- What the tasks of a legal program's normal form give to the tasks of its collecting text (this project's rule).
-use Rattle.std.specs.Prelude.{◌≡◌, ◌≤◌, ℕ, ℤ, Bool, List, false, [], ◌∷◌, Some, None}
-use Rattle.ada_tree.specs.PlainStmt.{PStmt, SAccept, SWait, accepting, PAlts, no_alt, alt_then, alternative, AAccept, ADelay, ATerminate}
+use Rattle.std.specs.Prelude.{◌≡◌, ◌≤◌, ℕ, ℤ, Bool, List, ◌∷◌, Some, None}
 use Rattle.ada_tree.specs.PlainProgram.{PProgram}
 use Rattle.syn_event.specs.declared.numbering.EntryInfo.{EntryInfo}
 use Rattle.syn_event.specs.Numbering.{entry_at}
-use Rattle.task_model.specs.Setting.{is_family, entry_parameters}
-use Rattle.task_model.specs.Starting.{unit_of, started}
-use Rattle.task_laws.specs.statements.Each.{Loops, InBody}
+use Rattle.task_model.specs.Setting.{entry_parameters}
+use Rattle.task_model.specs.Starting.{started}
 use Rattle.normal_laws.specs.existence.Laws.{IsLegalOriginal}
 use Rattle.replay_model.specs.ReplayTree.{last_task}
 use Rattle.replay_runs.specs.starts.Laws.{form_in}
@@ -29,26 +27,6 @@ use Rattle.collect_runs.specs.translation.Floors.{caller_parameter}
 use Rattle.collect_runs.specs.translation.Laws.{StartAlike}
 use Rattle.collect_runs.specs.telling.Texts.{CanTell, teller}
 use Rattle.collect_runs.specs.starts.Texts.{text_for, text_setting, names_added, recorder_number, note_number, recorder_of, texts_of}
-
--- ---- plain entries
-
--- no accept of these alternatives has an index
-abbrev pub HaveNoIndex : PAlts → Type 0
-HaveNoIndex no_alt = Unit {0}
-HaveNoIndex (alt_then (alternative guard (AAccept (accepting head stmts) behind) s) rest) = (head.index ≡ None) × HaveNoIndex rest
-HaveNoIndex (alt_then (alternative guard (ADelay duration stmts) s) rest) = HaveNoIndex rest
-HaveNoIndex (alt_then (alternative guard ATerminate s) rest) = HaveNoIndex rest
-
--- the statement is no accept with an index (9.5)
-abbrev pub HasNoIndex : Loops → PStmt → Type 0
-HasNoIndex loops (SAccept (accepting head stmts) s) = head.index ≡ None
-HasNoIndex loops (SWait alts otherwise s) = HaveNoIndex alts
-HasNoIndex loops _ = Unit {0}
-
--- No entry of the normal form is a family, and no accept has an index.
-pub record HasPlainEntries (p : PProgram) : Type 0 where
-  pub families : (e : ℕ) → is_family (form_in p).numbers e ≡ false
-  pub accepts : (t : ℕ) → InBody HasNoIndex [] (unit_of (form_in p).program (form_in p).numbers t).body
 
 -- ---- what is asked of the collecting text
 
@@ -84,10 +62,10 @@ pub record TextCollects (p : PProgram) (kept : ℕ → Bool) (inputs : List (Lis
 abbrev pub names_kept : PProgram → ℕ → Bool
 names_kept p = kept_name (form_in p).program
 
--- The collecting text of each legal program tells so, whether its entries are plain or families.
+-- The collecting text of each legal program tells so.
 abbrev pub LegalTextsTell : Type 0
 LegalTextsTell = (p : PProgram) → IsLegalOriginal p → IsTold p (names_kept p)
 
--- The collecting text of a legal program without an abort statement whose entries are plain collects, with whatever inputs.
+-- The collecting text of a legal program without an abort statement collects, with whatever inputs.
 abbrev pub LegalTextsCollect : Type 0
-LegalTextsCollect = (p : PProgram) (inputs : List (List ℤ)) → IsLegalOriginal p → first_abort p ≡ None → HasPlainEntries p → TextCollects p (names_kept p) inputs
+LegalTextsCollect = (p : PProgram) (inputs : List (List ℤ)) → IsLegalOriginal p → first_abort p ≡ None → TextCollects p (names_kept p) inputs

@@ -6,6 +6,7 @@ use Rattle.run_laws.specs.imitation.Shown.{Opened, ShowSame}
 use Rattle.run_laws.specs.collecting.Notes.{Lines}
 use Rattle.normal_laws.specs.runs.forms.Normalisable.{numbers_of}
 use Rattle.normal_laws.specs.structure.placed.Example.{passing}
+use Rattle.normal_laws.specs.runs.runs.Example as family
 use Rattle.normal_laws.specs.existence.Laws.{IsLegalOriginal}
 use Rattle.replay_runs.specs.controls.replayed.Replaying.{starting, AgreeBelow}
 use Rattle.replay_runs.specs.controls.replayed.Laws.{starting_form}
@@ -13,7 +14,6 @@ use Rattle.collect_model.specs.FirstAbort.{first_abort}
 use Rattle.collect_model.specs.Lines.{header_text}
 use Rattle.collect_runs.specs.lines.Pieces.{lines_with}
 use Rattle.collect_runs.specs.starts.Texts.{text_for, recorder_number}
-use Rattle.collect_runs.specs.forms.Laws.{HasPlainEntries}
 use Rattle.collect_runs.specs.originals.Recording.{CollectsRuns}
 
 -- What collects a program collects each program of as many tasks that shows the same.
@@ -34,10 +34,14 @@ abbrev pub LegalFormsCarryOver : Type 0
 LegalFormsCarryOver =
     (p q : PProgram) → IsLegalOriginal p → ((inputs : List (List ℤ)) → CollectsRuns (lines_for p) (starting_form p inputs) (starting q inputs) (recorder_number p)) → CollectsProgram p q
 
--- The collecting text of a legal program without an abort statement whose entries are plain collects the program.
+-- The collecting text of a legal program without an abort statement collects the program.
 abbrev pub LegalTextsCollectPrograms : Type 0
-LegalTextsCollectPrograms = (p : PProgram) → IsLegalOriginal p → first_abort p ≡ None → HasPlainEntries p → CollectsProgram p (text_for p)
+LegalTextsCollectPrograms = (p : PProgram) → IsLegalOriginal p → first_abort p ≡ None → CollectsProgram p (text_for p)
 
--- Nothing of this is empty: a program with a task and a call is so, and its text collects it.
+-- it is a legal program without an abort statement, and its text collects it
+abbrev pub IsMetBy : PProgram → Type 0
+IsMetBy p = IsLegalOriginal p × (first_abort p ≡ None) × CollectsProgram p (text_for p)
+
+-- Nothing of this is empty: a program with a task and a call is so, and one that calls a family's entry and accepts it in a selective wait.
 abbrev pub IsMet : Type 0
-IsMet = IsLegalOriginal passing × (first_abort passing ≡ None) × HasPlainEntries passing × CollectsProgram passing (text_for passing)
+IsMet = IsMetBy passing × IsMetBy family.example

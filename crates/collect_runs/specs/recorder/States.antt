@@ -9,7 +9,7 @@ use Rattle.ada_tree.specs.PlainDecl.{decls_of}
 use Rattle.ada_static_rules.specs.Scope.{integer_kind}
 use Rattle.ada_value.specs.declared.values.Value.{Value}
 use Rattle.ada_value.specs.declared.values.Value.TheVariants.{Number, Truth}
-use Rattle.ada_value.specs.Values.{limits_named, truth_limits}
+use Rattle.ada_value.specs.Values.{position_of, limits_named, truth_limits}
 use Rattle.ada_value.specs.Variables.{Object, Variables}
 use Rattle.ada_value.specs.Texts.{integer_text}
 use Rattle.task_model.specs.declared.parameters.FormalParameter.{FormalParameter}
@@ -58,11 +58,11 @@ kept k b = flags_object k k.names.met b.met ∷ flags_object k k.names.gone b.go
 abbrev pub formal_object : Recorder → NameId → ℕ → Value → Object
 formal_object k name mark v = record { name = name; limits = limits_named k.setting.types record { 0 = mark }; index = None; values = v ∷ [] }
 
--- the formals with the numbers of a note, and this answer, in front of what it keeps
+-- the formals with what a note says, and this answer, in front of what it keeps
 abbrev pub note_variables : Recorder → Spelled → Value → Book → Variables
 note_variables k s g b =
     formal_object k k.names.kind 0 (Number (pos s.kind)) ∷ formal_object k k.names.subject 0 (Number (pos s.subject)) ∷ formal_object k k.names.argument 0 (Number (pos s.argument))
-    ∷ formal_object k k.names.index 0 (Number s.index) ∷ formal_object k k.names.owner 0 (Number (pos s.owner)) ∷ formal_object k k.names.reply 3 g ∷ kept k b
+    ∷ formal_object k k.names.index 0 s.index ∷ formal_object k k.names.owner 0 (Number (pos s.owner)) ∷ formal_object k k.names.reply 3 g ∷ kept k b
 
 -- ---- at the start
 
@@ -128,7 +128,7 @@ abbrev pub piece_text : Spelled → Piece → List ℕ
 piece_text s (Words w) = w
 piece_text s Subject = integer_text (pos s.subject)
 piece_text s Argument = integer_text (pos s.argument)
-piece_text s Index = integer_text s.index
+piece_text s Index = integer_text (position_of s.index)
 
 -- the statements that write pieces, in front of others
 abbrev pub pieces_put : Recorder → List Piece → PStmts → PStmts
@@ -142,14 +142,14 @@ line_ended k answer = stmt_then (SNewLine k.span) (if answer then one (answered 
 -- The recorder in its accept body with the note of the task c: it has written these pieces of the line, and these are left before the line's end.
 pub data IsWriting (k : Recorder) (c : ℕ) (b : Book) (n : Note) (done : List ℕ) (left : List (List ℕ)) (t : Task) : Type 0 where
   -- it is before the next piece, or the line's end, and keeps already what it is to keep
-  AtLine : (e : Event) (other : ℕ) (ps : List Piece) → line_of b n ≡ Some e → left ≡ map (piece_text (spelled n other)) ps → done ++ concat left ≡ concat (front e) →
-      t ≡ hearing k c (pieces_put k ps (line_ended k (answer_of b n))) (note_variables k (spelled n other) (Truth false) (recorded b n)) (text (lines_of k) b.events ++ done) →
+  AtLine : (e : Event) (other : ℕ) (i : Value) (ps : List Piece) → line_of b n ≡ Some e → left ≡ map (piece_text (spelled n other i)) ps → done ++ concat left ≡ concat (front e) →
+      t ≡ hearing k c (pieces_put k ps (line_ended k (answer_of b n))) (note_variables k (spelled n other i) (Truth false) (recorded b n)) (text (lines_of k) b.events ++ done) →
       IsWriting k c b n done left t
   -- it has nothing to write: it is before it keeps that a task's call is to come, or before its test whether the call had been accepted
-  AtCall : (subject other : ℕ) → n ≡ BeforeCall subject → subject ≤ k.last → done ≡ [] → left ≡ [] →
-      t ≡ hearing k c (on_before_call k.names k.span) (note_variables k (spelled n other) (Truth false) b) (text (lines_of k) b.events) → IsWriting k c b n done left t
-  AtTest : (subject e : ℕ) (i : ℤ) (other : ℕ) → n ≡ HasFailed subject e i → subject ≤ k.last → b.met subject ≡ true → done ≡ [] → left ≡ [] →
-      t ≡ hearing k c (on_failed k.names k.span) (note_variables k (spelled n other) (Truth false) b) (text (lines_of k) b.events) → IsWriting k c b n done left t
+  AtCall : (subject other : ℕ) (i : Value) → n ≡ BeforeCall subject → subject ≤ k.last → done ≡ [] → left ≡ [] →
+      t ≡ hearing k c (on_before_call k.names k.span) (note_variables k (spelled n other i) (Truth false) b) (text (lines_of k) b.events) → IsWriting k c b n done left t
+  AtTest : (subject e : ℕ) (z : ℤ) (other : ℕ) (i : Value) → n ≡ HasFailed subject e z → subject ≤ k.last → b.met subject ≡ true → done ≡ [] → left ≡ [] →
+      t ≡ hearing k c (on_failed k.names k.span) (note_variables k (spelled n other i) (Truth false) b) (text (lines_of k) b.events) → IsWriting k c b n done left t
 
 -- The recorder at the end of its accept body, with the answer to the task c.
 pub record IsNoted (k : Recorder) (c : ℕ) (answer : Bool) (b : Book) (t : Task) : Type 0 where

@@ -10,7 +10,7 @@ use Rattle.task_model.specs.Calls.{call_in}
 use Rattle.task_model.specs.Stands.{can_step, stepped}
 use Rattle.task_model.specs.Rendezvous.{accepted, finished, resumed, call_failed, took_else, took_delay}
 use Rattle.task_laws.specs.statements.Blocks.{HasLeftBlocks}
-use Rattle.task_laws.specs.translation.OldTexts.{OldCall}
+use Rattle.task_laws.specs.translation.OldTexts.{OldCall, OldHead}
 use Rattle.task_laws.specs.translation.Scopes.{SeeAlike}
 use Rattle.task_laws.specs.translation.Controls.{task_in, ExitsLoop}
 use Rattle.collect_runs.specs.telling.Texts.{Texts, form, IsInteger, IsCallAlike, IsHeadAlike, Accepts}
@@ -35,7 +35,8 @@ pub record Form (x : Texts) : Type 1 where
   pub stays : (t : ℕ) (σ : Task) → IsSo t σ → StaysSo (IsSo t) σ
   pub calls : (t : ℕ) (i : List ℤ) (w : List ℕ) (a : Control) → IsSo t (task_in (form x) t i w a) → can_step (task_in (form x) t i w a) ≡ false → (c : PCall) → call_in a.top.rest ≡ Some c → OldCall x.programs c →
       (W : Variables) → SeeAlike x.programs a.vars W → IsCallAlike x t c a.vars W
-  pub heads : (t : ℕ) (i : List ℤ) (w : List ℕ) (a : Control) → IsSo t (task_in (form x) t i w a) → can_step (task_in (form x) t i w a) ≡ false → (h : PHead) → Accepts h a.top.rest →
+  pub heads : (t : ℕ) (i : List ℤ) (w : List ℕ) (a : Control) → IsSo t (task_in (form x) t i w a) → can_step (task_in (form x) t i w a) ≡ false → (h : PHead) →
+      Accepts h a.top.rest → OldHead x.programs h →
       (W : Variables) → SeeAlike x.programs a.vars W → IsHeadAlike x t h a.vars W
   pub delays : (t : ℕ) (i : List ℤ) (w : List ℕ) (a : Control) → IsSo t (task_in (form x) t i w a) → (alts : PAlts) (o : PMaybe) (s : Span) (rest : PStmts) → a.top.rest ≡ stmt_then (SWait alts o s) rest →
       (k : ℕ) → k ≤ alts_count alts → IsInteger k

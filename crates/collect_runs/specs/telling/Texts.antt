@@ -2,12 +2,13 @@
 use Rattle.std.specs.Prelude.{◌≡◌, ℕ, ℤ, pos, true, false, List, ◌∷◌, ◌++◌, unwrap_or, Option, Ok}
 use Rattle.event_machine.specs.Programs.{Program}
 use Rattle.ada_tree.specs.declared.naming.Span.{Span}
+use Rattle.ada_tree.specs.TypeTable.{TypeTable}
 use Rattle.ada_tree.specs.PlainExpr.{PExpr}
 use Rattle.ada_tree.specs.PlainStmt.{PCall, PHead, SAccept, SWait, PStmts, stmt_then, PMaybe, accepting, PAlts, alternative, PAltKind, AAccept, alt_then}
 use Rattle.ada_static_rules.specs.StaticValue.{is_integer_value}
 use Rattle.ada_value.specs.declared.values.Value.{Value}
 use Rattle.ada_value.specs.declared.values.Value.TheVariants.{Number}
-use Rattle.ada_value.specs.Values.{integer_limits, truth_limits, limits_named}
+use Rattle.ada_value.specs.Values.{position_of, integer_limits, truth_limits, limits_named}
 use Rattle.ada_value.specs.Variables.{Object, Variables}
 use Rattle.ada_value.specs.Evaluating.{evaluated}
 use Rattle.syn_event.specs.Numbering.{task_named, owner_of}
@@ -69,6 +70,13 @@ pub record CanTell (x : Texts) : Type 0 where
   pub integer : limits_named (text x).types record { 0 = 0 } ≡ integer_limits
   pub truth : limits_named (text x).types record { 0 = 3 } ≡ truth_limits
 
+-- The expression is worth a value at this position, which is a number of INTEGER: a note tells the member by it (3.5.4, 3.5.5).
+pub record TellsMember (T : TypeTable) (V : Variables) (e : PExpr) (z : ℤ) : Type 0 where
+  pub value : Value
+  pub worth : evaluated T V e ≡ Ok value
+  pub position : position_of value ≡ z
+  pub fits : is_integer_value z ≡ true
+
 -- ---- calls
 
 -- A call in the unit of the task t, with these variables of the task and of its image. It comes to the same entry and member in both, and the image hands over its own number in front of the same values. The number of the entry, the member and the owner are told as numbers of INTEGER. The values that come back go to the same variables.
@@ -80,10 +88,9 @@ pub record IsCallAlike (x : Texts) (t : ℕ) (c : PCall) (V W : Variables) : Typ
   pub there : (s : Span) → called (text x) W (call_telling (teller x t) s c) ≡ Ok record { entry = entry; index = index; values = Number (pos t) ∷ values }
   pub known : AreValues x.programs values
   pub number : entry_called (teller x t) c ≡ entry
-  pub member : (s : Span) → evaluated (text x).types W (member_called (teller x t) s c) ≡ Ok (Number index)
+  pub member : (s : Span) → TellsMember (text x).types W (member_called (teller x t) s c) index
   pub owner : owner_of x.main.numbers entry ≡ owner_of (form x).numbers entry
   pub entry_fits : IsInteger entry
-  pub index_fits : is_integer_value index ≡ true
   pub owner_fits : IsInteger (owner_of (form x).numbers entry)
   pub copies : (s : Span) (vs : List Value) (U : Variables) →
       copied_back (entry_parameters (text x) entry) (lists_of (text x).numbers entry (call_telling (teller x t) s c).args).actuals vs U ≡
@@ -98,8 +105,7 @@ pub record IsHeadAlike (x : Texts) (t : ℕ) (h : PHead) (V W : Variables) : Typ
   pub index : member_index (text x) W (entry_of (text x).numbers t h.entry.name) h.index ≡ member_index (form x) V (entry_of (form x).numbers t h.entry.name) h.index
   pub entry_fits : IsInteger (entry_of (form x).numbers t h.entry.name)
   pub told : (z : ℤ) → member_index (form x) V (entry_of (form x).numbers t h.entry.name) h.index ≡ Ok z → (own : Object) → own.name ≡ x.main.added.caller → (vs : List Value) (s : Span) →
-      (is_integer_value z ≡ true) ×
-      (evaluated (text x).types (own ∷ (opened_objects (text x).types (parameters_of (text x).types h.formals) vs ++ W)) (x.main.member (entry_of x.main.numbers t h.entry.name) s h.index) ≡ Ok (Number z))
+      TellsMember (text x).types (own ∷ (opened_objects (text x).types (parameters_of (text x).types h.formals) vs ++ W)) (x.main.member (entry_of x.main.numbers t h.entry.name) s h.index) z
 
 -- the statement is an accept with this head, or has an alternative with it
 pub data HasHead (h : PHead) : PAlts → Type 0 where

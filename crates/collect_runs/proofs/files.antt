@@ -1,0 +1,4 @@
+pub mod Marks
+pub mod Texts
+pub mod Sequences
+pub mod Machines

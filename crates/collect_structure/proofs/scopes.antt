@@ -1,0 +1,13 @@
+pub mod Language
+pub mod Grown
+pub mod Objects
+pub mod Tasks
+pub mod Unit
+pub mod Types
+pub mod Inner
+pub mod Bodies
+pub mod Main
+pub mod Owned
+pub mod Told
+pub mod Known
+pub mod Whole

@@ -1,0 +1,5 @@
+pub mod Language
+pub mod Text
+pub mod Grown
+pub mod Form
+pub mod Inner
