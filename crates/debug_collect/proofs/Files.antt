@@ -11,7 +11,8 @@ use Rattle.text_lines.specs.Lines.{is_line_end}
 use Rattle.collect_model.specs.Lines.{header_text}
 use Rattle.debug_run.specs.texts.OutputText.{but_last, finished_lines}
 use Rattle.debug_run.proofs.texts.Outputting.{some_piece, but_last-cons}
-use Rattle.debug_collect.specs.Recorded.{ended_line, event_lines}
+use Rattle.collect_runs.specs.files.Files.{ended_line}
+use Rattle.debug_collect.specs.Recorded.{event_lines}
 
 -- ---- the header
 

@@ -7,30 +7,31 @@ use Rattle.ada_tree.specs.TypeTable.{TypeTable}
 use Rattle.ada_tree.specs.WellPlaced.{IsWellPlaced}
 use Rattle.ada_static_rules.specs.Refusals.{types_in}
 use Rattle.ada_printer.specs.ProgramText.{program_text}
-use Rattle.syn_event.specs.AllNumbers.{all_numbers}
-use Rattle.syn_event.specs.CheckRefusals.{MeetsCheckRules}
 use Rattle.syn_event.specs.declared.numbering.Mode.TheVariants.{Any}
+use Rattle.syn_event.specs.Legal.{Legal}
 use Rattle.syn_event.specs.Numbering.{Numbering}
 use Rattle.normal_form.specs.declared.errors.XformError.{XformError}
 use Rattle.normal_form.specs.declared.errors.XformError.TheVariants as error
 use Rattle.collect_model.specs.CollectTree.{collect_tree}
 use Rattle.collect_model.specs.CollectNumbers.{collect_numbers}
 use Rattle.collect_model.specs.FirstAbort.{first_abort}
+use Rattle.collect_runs.specs.originals.Laws.{CollectsProgram as TextCollects}
 use Rattle.text_laws.specs.normal_read_back.Laws.{IsReadAsSame}
 use Rattle.debug_outcome.specs.files.Wanting.{text_limit}
 use Rattle.debug_outcome.specs.Outcomes.{Outcome, writes, refuses}
 use Rattle.debug_outcome.specs.declared.refusal.Refusal.{Refusal}
 use Rattle.debug_outcome.specs.declared.refusal.Refusal.TheVariants.{HasAbort, LongText}
 
--- No abort statement stands in the program with these types and numbers, and the outcome is the text of another program, its collecting text. That has the
--- numbers of the definition, meets the rules 13 to 23 as a text of any kind, is read back as the same, and is within its limit.
+-- No abort statement stands in the program with these types and numbers, and the outcome is the text of another program, its collecting text. That is legal
+-- as a text of any kind, with the numbers of the definition. It collects the program with all inputs and whatever the schedule, is read back as the same,
+-- and is within its limit.
 pub record IsCollected (p : PProgram) (types : TypeTable) (numbers : Numbering) (o : Outcome) : Type 0 where
   pub none : first_abort p ≡ None
   pub text : PProgram
   pub is_text : text ≡ collect_tree p types numbers
   pub placed : IsWellPlaced text
-  pub numbered : all_numbers (types_in text) text ≡ collect_numbers p types numbers
-  pub checks : MeetsCheckRules text Any
+  pub legal : Legal text (types_in text) (collect_numbers p types numbers) Any
+  pub collects : TextCollects p text
   pub read_back : IsReadAsSame text
   pub short : length (program_text text) ≤ text_limit
   pub is : o ≡ writes (program_text text) 0

@@ -4,14 +4,12 @@ use ded_io::{Sink, SinkError};
 
 /// An output that keeps nothing, takes no memory and never fails.
 #[derive(Drop)]
-pub(crate) struct Nowhere {
-    faults: u64,
-}
+pub(crate) struct Nowhere {}
 
 impl Nowhere {
     /// Such an output.
     pub(crate) fn new() -> Nowhere {
-        Nowhere { faults: 0 }
+        Nowhere {}
     }
 }
 
@@ -20,7 +18,7 @@ impl Sink for Nowhere {
 
     ghost told = { λ _. None };
 
-    ghost faults = { λ out. out.faults };
+    ghost faults = { λ _. 0 };
 
     #[tactic(auto, unfolding(ded_io::specs::Written::Wrote))]
     fn put(&mut self, _bytes: &[u8]) -> Result<(), SinkError> {
@@ -28,6 +26,6 @@ impl Sink for Nowhere {
     }
 
     fn faults(&self) -> u64 {
-        self.faults
+        0
     }
 }

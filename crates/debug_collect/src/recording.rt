@@ -1,27 +1,31 @@
 //! The sequence that a run of a collecting text records, on the output.
 
-ghost use Rattle.std.specs.Prelude.{◌≡◌, ◌<◌, ◌-◌, ◌^◌, ◌++◌, [], length, IfOk, OnOk};
+ghost use Rattle.std.specs.Prelude.{◌≡◌, ◌≤◌, ◌<◌, ◌-◌, ◌^◌, ◌++◌, [], length, IfOk, OnOk};
 ghost use Rattle.ada_tree.specs.PlainProgram.{plain_program};
+ghost use Rattle.ada_static_rules.specs.Refusals.{types_in};
 ghost use Rattle.ded_io.specs.Written.{each_text};
-ghost use Rattle.syn_event.specs.declared.numbering.Mode.TheVariants.{Any};
+ghost use Rattle.syn_event.specs.AllNumbers.{all_numbers};
+ghost use Rattle.syn_event.specs.declared.numbering.Mode.TheVariants.{Any, Original};
+ghost use Rattle.normal_laws.specs.existence.Laws.{IsLegalOriginal};
 ghost use Rattle.syn_event.specs.Legal.{Legal};
 ghost use Rattle.debug_outcome.specs.Coming.{Comes, Never};
 ghost use Rattle.debug_outcome.specs.Outcomes.{writes};
 ghost use Rattle.debug_run.specs.RunOutcomes.{run_status};
 ghost use Rattle.debug_run.specs.texts.OutputText.{finished_lines};
-ghost use Rattle.debug_collect.specs.Recorded.{RecordsProgram, end_line, ended_line, event_lines, opening, recorded_text, recorder_of};
+ghost use Rattle.collect_runs.specs.files.Files.{end_line, ended_line};
+ghost use Rattle.debug_collect.specs.Recorded.{RecordsProgram, event_lines, is_ended, opening, recorded_text, recorder_of};
 ghost use Rattle.debug_collect.specs.inner.Running.{IsFileOf};
 
 use crate::collecting::collect_failure;
 use crate::nowhere::Nowhere;
-use ada_check::{Checked, check};
+use ada_check::{CheckError, Checked, check};
 use ada_tree::{Memory, Names, Program, Types};
 use ada_value::Inputs;
 use collect_xform::{collect, header_text};
 use debug_outcome::Stop;
 use debug_run::status_of;
 use ded_io::{Chooser, Sink};
-use interp::{RunEnd, run};
+use interp::{RunEnd, RunError, run};
 use normal_parts::last_task;
 use std::alloc::Global;
 use syn_event::{Mode, Numbers};
@@ -36,10 +40,11 @@ pub(crate) struct Recorded {
     pub(crate) end: RunEnd,
 }
 
-/// Runs the collecting text of a program with its types and numbers, which was read from these bytes, with these inputs, each turn making the action that the next
-/// choice picks, for at most `turns` actions, and writes the sequence file of what its recorder has written. It answers 0 where the run has ended,
-/// 10 where no action applies any more, and 11 where all turns were made and more actions apply. A program with an abort statement is refused, by
-/// the place of the first. All of the file is made before any of it is put.
+/// Runs the collecting text of a legal original with its types and numbers, which was read from these bytes, with these inputs, each turn making the
+/// action that the next choice picks, for at most `turns` actions, and writes the sequence file of what its recorder has written. That is the file of a
+/// sequence which is feasible in the program with these inputs. It answers 0 where the run has ended, 10 where no action applies any more, and 11 where
+/// all turns were made and more actions apply. A program with an abort statement is refused, by the place of the first. All of the file is made before
+/// any of it is put.
 pub fn write_recorded<'w, C: Chooser, K: Sink>(
     alloc: Global,
     bytes: &[u8],
@@ -51,7 +56,9 @@ pub fn write_recorded<'w, C: Chooser, K: Sink>(
     turns: u64,
     out: &mut K,
 ) -> Result<u8, Stop<'w>>
-    requires { length bytes.now < 2 ^ 32 - 1 }
+    requires legal { IsLegalOriginal (plain_program program.now) }
+    requires own { Legal (plain_program program.now) types.now numbers.now Original }
+    requires length { length bytes.now < 2 ^ 32 - 1 }
     ensures { Comes (RecordsProgram C.word C.next (plain_program program.now) types.now numbers.now bytes.now inputs.now choices.old turns) Never (K.told out.old) (K.told out.new) (K.faults out.old) (K.faults out.new) result }
 {
     let text = match collect(alloc, program, types, numbers) {
@@ -82,7 +89,7 @@ fn put_recorded<'w, K: Sink>(recorded: &Recorded, out: &mut K) -> Result<u8, Sto
     }
 }
 
-// Runs a text with its own types and numbers, and gives the file of what its recorder has written for the program of these names and numbers.
+// Runs a legal text with its own types and numbers, and gives the file of what its recorder has written for the program of these names and numbers.
 fn record<C: Chooser>(
     alloc: Global,
     names: &Names,
@@ -92,6 +99,8 @@ fn record<C: Chooser>(
     choices: &mut C,
     turns: u64,
 ) -> Result<Recorded, Memory>
+    requires few { length numbers.now.tasks ≤ 201 }
+    requires legal { let p = plain_program text.now in Legal p (types_in p) (all_numbers (types_in p) p) Any }
     ensures { IfOk result (IsFileOf C.word C.next names.now numbers.now (opening (plain_program text.now) inputs.now) choices.old turns) }
 {
     match check(alloc, text, Mode::Any) {
@@ -100,7 +109,8 @@ fn record<C: Chooser>(
                 alloc, names, numbers, text, &checked, inputs, choices, turns,
             )
         }
-        Err(_) => Err(Memory),
+        Err(CheckError::Memory) => Err(Memory),
+        Err(_) => unreachable!(),
     }
 }
 
@@ -115,7 +125,8 @@ fn record_checked<C: Chooser>(
     choices: &mut C,
     turns: u64,
 ) -> Result<Recorded, Memory>
-    requires { Legal (plain_program text.now) checked.now.types checked.now.numbers Any }
+    requires few { length numbers.now.tasks ≤ 201 }
+    requires legal { Legal (plain_program text.now) checked.now.types checked.now.numbers Any }
     ensures { IfOk result (IsFileOf C.word C.next names.now numbers.now (opening (plain_program text.now) inputs.now) choices.old turns) }
 {
     let links = Links::new(alloc, text, &checked.types, &checked.numbers)?;
@@ -131,7 +142,7 @@ fn record_checked<C: Chooser>(
                 turns,
             )
         }
-        Err(_) => Err(Memory),
+        Err(Memory) => Err(Memory),
     }
 }
 
@@ -145,25 +156,25 @@ fn record_machine<C: Chooser>(
     choices: &mut C,
     turns: u64,
 ) -> Result<Recorded, Memory>
+    requires few { length numbers.now.tasks ≤ 201 }
     ensures { IfOk result (IsFileOf C.word C.next names.now numbers.now machine.old choices.old turns) }
 {
-    let recorder = recorder_of(numbers)?;
     let end = match run(alloc, machine, its, choices, turns, &mut Nowhere::new()) {
         Ok(report) => report.end,
-        Err(_) => return Err(Memory),
+        Err(RunError::Memory) => return Err(Memory),
+        Err(RunError::Sink) => unreachable!(),
     };
-    let file = sequence_file(alloc, names, numbers, machine.output(recorder), end)?;
+    let output = machine.output(recorder_of(numbers));
+    let file = sequence_file(alloc, names, numbers, output, end)?;
     Ok(Recorded { file, end })
 }
 
-// The number of the recorder; want of memory where it has none.
-fn recorder_of(numbers: &Numbers) -> Result<u32, Memory>
-    ensures { IfOk result (λ t. t ≡ recorder_of numbers.now) }
+// The number of the recorder.
+fn recorder_of(numbers: &Numbers) -> u32
+    requires { length numbers.now.tasks ≤ 201 }
+    ensures { result ≡ recorder_of numbers.now }
 {
-    match last_task(numbers).checked_add(1) {
-        Some(task) => Ok(task),
-        None => Err(Memory),
-    }
+    last_task(numbers) + 1
 }
 
 // The sequence file by what the recorder has written.
@@ -186,7 +197,7 @@ fn sequence_file(
 
 // The line of the end goes behind others, where the run has ended.
 fn put_end(end: RunEnd, file: &mut Vec<u8>) -> Result<(), Memory>
-    ensures { OnOk result (file.new.items ≡ file.old.items ++ end_line end) }
+    ensures { OnOk result (file.new.items ≡ file.old.items ++ end_line (is_ended end)) }
 {
     match end {
         RunEnd::Ended => {

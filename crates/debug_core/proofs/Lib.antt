@@ -2,6 +2,7 @@ pub mod Refusing
 pub mod ReadingBack
 pub mod Originals
 pub mod Calling
+pub mod FewProducers
 pub mod Recording
 pub mod ShortNumbers
 pub mod OneLoad
@@ -16,3 +17,4 @@ pub mod OneMeaning
 pub mod OneAnswer
 pub mod Following
 pub mod Promised
+pub mod CollectedFile

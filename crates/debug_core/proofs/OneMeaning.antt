@@ -6,7 +6,7 @@ use Rattle.ada_printer.specs.ProgramText.{program_text}
 use Rattle.syn_event.specs.declared.numbering.Mode.TheVariants.{Original, Any}
 use Rattle.syn_event.specs.Numbering.{Numbering}
 use Rattle.debug_run.specs.texts.CheckText.{check_text}
-use Rattle.debug_outcome.specs.words.Words.{Asked, AsksPrint, AsksCheck, AsksRun, AsksJudge, AsksReplay, AsksRequire, AsksMigrate, AsksVariants, AsksContinue, AsksCollect, AsksCollectRun, NoChoices, ChoicesIn, ChoicesBy}
+use Rattle.debug_outcome.specs.words.Words.{Asked, AsksPrint, AsksCheck, AsksRun, AsksJudge, AsksReplay, AsksRequire, AsksMigrate, AsksVariants, AsksContinue, AsksCollect, AsksCollectRun, AsksLoad, NoChoices, ChoicesIn, ChoicesBy}
 use Rattle.debug_outcome.specs.files.Giving.{Given, NothingGiven, BytesGiven, SeedGiven}
 use Rattle.debug_outcome.specs.Outcomes.{Outcome, writes}
 use Rattle.debug_judge.specs.JudgeOutcomes.{SequenceMeans}
@@ -17,6 +17,7 @@ use Rattle.debug_sequence.specs.MigrateOutcomes.{Migrates}
 use Rattle.debug_sequence.specs.RequireOutcomes.{RequiresLines}
 use Rattle.debug_sequence.proofs.OneMigrate.{one_migrate}
 use Rattle.debug_sequence.proofs.OneRequire.{one_require}
+use Rattle.debug_load.proofs.OneLoading.{one_loading}
 use Rattle.debug_core.specs.Answers.{Means}
 use Rattle.debug_core.specs.CheckMeaning.{CheckMeans}
 use Rattle.debug_core.specs.ChosenRuns.{RunsUnder}
@@ -144,4 +145,5 @@ one_meant (AsksCollectRun file None (ChoicesBy seed) turns) (text ∷ []) o q h 
 one_meant (AsksCollectRun file (Some list) NoChoices turns) (text ∷ inputs ∷ []) o q h k = one_recorded text (Some inputs) NothingGiven turns o q h k
 one_meant (AsksCollectRun file (Some list) (ChoicesIn name) turns) (text ∷ inputs ∷ choices ∷ []) o q h k = one_recorded text (Some inputs) (BytesGiven choices) turns o q h k
 one_meant (AsksCollectRun file (Some list) (ChoicesBy seed) turns) (text ∷ inputs ∷ []) o q h k = one_recorded text (Some inputs) (SeedGiven seed) turns o q h k
+one_meant (AsksLoad n) [] o q h k = one_loading n o q h k
 one_meant asked contents o q h k = absurd h

@@ -42,10 +42,10 @@ use Rattle.debug_core.proofs.ShortNumbers.{are_short}
 
 -- ---- what has written was not refused
 
-refused : (o : Outcome) (refusal : Refusal) → HasWritten o → o ≡ refuses refusal → ⊥
+pub refused : (o : Outcome) (refusal : Refusal) → HasWritten o → o ≡ refuses refusal → ⊥
 refused o refusal (text, status, is) e = line_is_some refusal (sym (ap (λ (q : Outcome). q.err) (sym is ∙ e)))
 
-told : (o : Outcome) (r : Option Refusal) → HasWritten o → IsRefusal r o → ⊥
+pub told : (o : Outcome) (r : Option Refusal) → HasWritten o → IsRefusal r o → ⊥
 told o (Some refusal) w h = refused o refusal w h
 told o None w h = h
 
@@ -57,7 +57,7 @@ no-inputs : (numbers : Numbering) (inputs : Option (List ℕ)) (o : Outcome) →
 no-inputs numbers None o w h = h
 no-inputs numbers (Some bytes) o w h = told o _ w h.told
 
-no-start : (text : List ℕ) (inputs : Option (List ℕ)) (o : Outcome) → HasWritten o → IsRefusedStart text Original inputs o → ⊥
+pub no-start : (text : List ℕ) (inputs : Option (List ℕ)) (o : Outcome) → HasWritten o → IsRefusedStart text Original inputs o → ⊥
 no-start text inputs o w (inl h) = no-text text o w h
 no-start text inputs o w (inr h) = no-inputs h.numbers inputs o w h.are_bad
 

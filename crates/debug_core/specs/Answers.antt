@@ -1,7 +1,7 @@
 -- What the words and the bytes of the files call for, and what the program answers: such an outcome, delivered (this project's rules).
 use Rattle.std.specs.Prelude.{ℕ, List, [], ◌∷◌, Option, Some, None, ◌⊎◌}
 use Rattle.ded_io.specs.Told.{ToldFile}
-use Rattle.debug_outcome.specs.words.Words.{Asked, AsksPrint, AsksCheck, AsksRun, AsksJudge, AsksReplay, AsksRequire, AsksMigrate, AsksVariants, AsksContinue, AsksCollect, AsksCollectRun, NoChoices, ChoicesIn, ChoicesBy}
+use Rattle.debug_outcome.specs.words.Words.{Asked, AsksPrint, AsksCheck, AsksRun, AsksJudge, AsksReplay, AsksRequire, AsksMigrate, AsksVariants, AsksContinue, AsksCollect, AsksCollectRun, AsksLoad, NoChoices, ChoicesIn, ChoicesBy}
 use Rattle.debug_outcome.specs.declared.words.command.NoWords.{NoWords}
 use Rattle.debug_outcome.specs.declared.words.command.NoWords.TheVariants.{NotText, Memory}
 use Rattle.debug_outcome.specs.Coming.{Never, Tells}
@@ -13,6 +13,7 @@ use Rattle.debug_outcome.specs.declared.refusal.Refusal.TheVariants.{Usage}
 use Rattle.debug_outcome.specs.declared.stopping.Stop.TheVariants as stop
 use Rattle.debug_outcome.specs.files.Giving.{NothingGiven, BytesGiven, SeedGiven}
 use Rattle.debug_outcome.specs.files.Wanting.{wanted_by}
+use Rattle.debug_load.specs.LoadOutcomes.{LoadMeans}
 use Rattle.debug_core.specs.PrintMeaning.{PrintMeans}
 use Rattle.debug_core.specs.CheckMeaning.{CheckMeans}
 use Rattle.debug_core.specs.RunMeaning.{RunMeans}
@@ -58,6 +59,7 @@ Means (AsksCollectRun file None (ChoicesBy seed) turns) (text ∷ []) o = Collec
 Means (AsksCollectRun file (Some list) NoChoices turns) (text ∷ inputs ∷ []) o = CollectRunMeans text (Some inputs) NothingGiven turns o
 Means (AsksCollectRun file (Some list) (ChoicesIn name) turns) (text ∷ inputs ∷ choices ∷ []) o = CollectRunMeans text (Some inputs) (BytesGiven choices) turns o
 Means (AsksCollectRun file (Some list) (ChoicesBy seed) turns) (text ∷ inputs ∷ []) o = CollectRunMeans text (Some inputs) (SeedGiven seed) turns o
+Means (AsksLoad n) [] o = LoadMeans n o
 Means asked contents o = ⊥
 
 -- The bytes of all files were loaded, each by one load and in the order of the words, and with the words they call for the outcome.

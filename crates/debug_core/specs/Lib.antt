@@ -20,4 +20,5 @@ pub mod CollectRunMeaning
 pub mod Answers
 pub mod OneAnswer
 pub mod Headline
+pub mod CollectedHeadline
 pub mod inner

@@ -9,7 +9,7 @@ ghost use Rattle.debug_outcome.specs.Coming.{Comes, Never};
 ghost use Rattle.debug_outcome.specs.Traces.{HasLoads};
 ghost use Rattle.debug_core.specs.Answers.{CallsFor};
 ghost use Rattle.debug_core.specs.CollectRunMeaning.{CollectRunMeans, RecordsBy, RecordsUnder};
-ghost use Rattle.debug_core.specs.inner.Started.{choosing_of, setup_of};
+ghost use Rattle.debug_core.specs.inner.Started.{IsLegalStart, choosing_of, setup_of};
 
 use crate::choosing::{Choosing, choosing_of};
 use crate::starting::{Start, read_start};
@@ -70,6 +70,7 @@ fn record_under<'w, O: Sink>(
     turns: u64,
     out: &mut O,
 ) -> Result<u8, Stop<'w>>
+    requires legal { IsLegalStart start.now }
     requires short { IsShort text.now }
     requires choices { AreShortChoices choices.now }
     ensures { Comes (RecordsUnder text.now (setup_of start.now) start.now.legal.numbers (given_as choices.now) turns) Never (O.told out.old) (O.told out.new) (O.faults out.old) (O.faults out.new) result }
@@ -89,7 +90,8 @@ fn record_chosen<'w, O: Sink>(
     turns: u64,
     out: &mut O,
 ) -> Result<u8, Stop<'w>>
-    requires { IsShort text.now }
+    requires legal { IsLegalStart start.now }
+    requires short { IsShort text.now }
     ensures { Comes (RecordsBy text.now (setup_of start.now) start.now.legal.numbers turns (choosing_of choosing)) Never (O.told out.old) (O.told out.new) (O.faults out.old) (O.faults out.new) result }
 {
     match choosing {
@@ -118,7 +120,8 @@ fn record_by<'w, C: Chooser, O: Sink>(
     turns: u64,
     out: &mut O,
 ) -> Result<u8, Stop<'w>>
-    requires { IsShort text.now }
+    requires legal { IsLegalStart start.now }
+    requires short { IsShort text.now }
     ensures { Comes (RecordsProgram C.word C.next (plain_program start.now.legal.program) start.now.legal.types start.now.legal.numbers text.now start.now.inputs choices.old turns) Never (O.told out.old) (O.told out.new) (O.faults out.old) (O.faults out.new) result }
 {
     write_recorded(

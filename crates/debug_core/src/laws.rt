@@ -1,5 +1,6 @@
 // What is so of all answers.
 
+ghost use Rattle.debug_core.specs.CollectedHeadline.{CollectedHeadline};
 ghost use Rattle.debug_core.specs.Headline.{Headline};
 ghost use Rattle.debug_core.specs.OneAnswer.{OneAnswer};
 
@@ -15,4 +16,11 @@ pub fn one_answer()
 /// is not, each run can go on to all before the first event that no run reaches, which the judging names, unless it is unsettled.
 pub fn headline()
     ensures { Headline }
+{}
+
+/// Carries the promise of collecting in one statement. What a call writes that runs the collecting text of a program is the file of a sequence that is
+/// feasible in the program with these inputs. Where it has no more events than a file may have, each call that judges it with these inputs tells a
+/// verdict that names no infeasible event.
+pub fn collected()
+    ensures { CollectedHeadline }
 {}

@@ -23,5 +23,5 @@ mod top;
 mod variants_command;
 
 pub use debug_judge::{LinesError, LinesVerdict, judge_lines};
-pub use laws::{headline, one_answer};
+pub use laws::{collected, headline, one_answer};
 pub use top::{debug_main, debug_program};

@@ -1,8 +1,10 @@
 // The program's one call.
 
-ghost use Rattle.std.specs.Prelude.{map, string_bytes, MatchResult};
+ghost use Rattle.std.specs.Prelude.{◌≡◌, ◌≤◌, ℕ, map, string_bytes, MatchResult};
+ghost use Rattle.load_gen.specs.LoadTree.{most_producers};
 ghost use Rattle.debug_outcome.specs.words.Words.{asked_by};
 ghost use Rattle.debug_outcome.specs.words.Commands.{asked_as};
+ghost use Rattle.debug_outcome.specs.declared.words.command.Command.TheVariants.{Load};
 ghost use Rattle.debug_outcome.specs.Coming.{Comes};
 ghost use Rattle.debug_outcome.specs.Delivery.{Sides};
 ghost use Rattle.debug_outcome.specs.Traces.{HasLoads};
@@ -19,6 +21,7 @@ use crate::replay_command::replay_command;
 use crate::require_command::require_command;
 use crate::run_command::run_command;
 use crate::variants_command::variants_command;
+use debug_load::write_load;
 use debug_outcome::words::{Command, NoWords, command_of};
 use debug_outcome::{Refusal, Stop, TracedFiles, tell};
 use ded_io::Sink;
@@ -29,7 +32,7 @@ use std::alloc::Global;
 ///
 /// The usages are `print FILE`, `check FILE`, `replay FILE SEQUENCE`, `migrate FILE SEQUENCE`, `require FILE SEQUENCE CONSTRAINTS`,
 /// `run FILE IN CHOICES TURNS`, `judge FILE IN SEQUENCE STEPS`, `variants FILE IN SEQUENCE STEPS`,
-/// `continue FILE IN SEQUENCE CHOICES COUNT STEPS`, `collect FILE` and `collect-run FILE IN CHOICES TURNS`. The statuses are 0 done; 10 no action applied any more and 11 all turns were made, of a run;
+/// `continue FILE IN SEQUENCE CHOICES COUNT STEPS`, `collect FILE`, `collect-run FILE IN CHOICES TURNS` and `load PRODUCERS`. The statuses are 0 done; 10 no action applied any more and 11 all turns were made, of a run;
 /// 4 the sequence is infeasible and 5 it is not settled, where it is judged; 10 nothing can come any more, 5 that is not settled and 11 all events
 /// were added, of going on; 14 the sequence breaks a constraint; 1 the program's text is refused, 2 the words are none of these, 3 the sequence is
 /// refused, 6 a file cannot be read, 7 an output cannot be written, 8 a limit is passed, 9 out of memory, 12 the inputs or the choices are refused,
@@ -90,6 +93,7 @@ fn carry_out<'w, F: TracedFiles, O: Sink>(
     files: &mut F,
     out: &mut O,
 ) -> Result<u8, Stop<'w>>
+    requires { (n : ℕ) → command ≡ Load n → n ≤ most_producers }
     ensures { HasLoads F.leads files.old files.new (λ loads. Comes (CallsFor (asked_as command.entry) (F.told files.old) (F.faults files.old) (F.faults files.new) loads) (GrowsFor (asked_as command.entry) (F.told files.old) (F.faults files.old) (F.faults files.new) loads) (O.told out.old) (O.told out.new) (O.faults out.old) (O.faults out.new) result) }
 {
     match command {
@@ -104,5 +108,6 @@ fn carry_out<'w, F: TracedFiles, O: Sink>(
         Command::Continue(asked) => continue_command(alloc, asked, files, out),
         Command::Collect(file) => collect_command(alloc, file, files, out),
         Command::CollectRun(asked) => collect_run_command(alloc, asked, files, out),
+        Command::Load(n) => write_load(alloc, n, out),
     }
 }

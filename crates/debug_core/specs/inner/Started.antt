@@ -4,6 +4,7 @@ use Rattle.ada_tree.specs.WellPlaced.{IsWellPlaced}
 use Rattle.syn_event.specs.declared.numbering.Mode.TheVariants.{Original}
 use Rattle.syn_event.specs.Legal.{Legal}
 use Rattle.task_model.specs.Machine.{ProgramWithInputs}
+use Rattle.normal_laws.specs.existence.Laws.{IsLegalOriginal}
 use Rattle.debug_core.specs.ChoiceTexts.{Choosing, FromList, FromSeed}
 use Rattle.debug_core.specs.declared.choosing.Choosing as code
 use Rattle.debug_core.specs.declared.choosing.Choosing.TheVariants as made
@@ -16,6 +17,11 @@ setup_of start = record { program = plain_program start.legal.program; types = s
 pub record IsOriginal (start : Start) : Type 0 where
   pub placed : IsWellPlaced (plain_program start.legal.program)
   pub legal : Legal (plain_program start.legal.program) start.legal.types start.legal.numbers Original
+
+-- the program is a legal original, as the laws of legal programs ask, with the types and numbers that were found
+pub record IsLegalStart (start : Start) : Type 0 where
+  pub original : IsLegalOriginal (plain_program start.legal.program)
+  pub own : Legal (plain_program start.legal.program) start.legal.types start.legal.numbers Original
 
 abbrev pub choosing_of : code.Choosing → Choosing
 choosing_of (made.FromList choices) = FromList choices.items

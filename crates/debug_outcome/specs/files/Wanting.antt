@@ -1,6 +1,6 @@
 -- Which files are loaded for what is asked, and how many bytes each may have (this project's rules).
 use Rattle.std.specs.Prelude.{ℕ, List, [], ◌∷◌, ◌++◌, Option}
-use Rattle.debug_outcome.specs.words.Words.{Asked, AsksPrint, AsksCheck, AsksRun, AsksJudge, AsksReplay, AsksRequire, AsksMigrate, AsksVariants, AsksContinue, AsksCollect, AsksCollectRun, ChoiceSource, NoChoices, ChoicesIn, ChoicesBy}
+use Rattle.debug_outcome.specs.words.Words.{Asked, AsksPrint, AsksCheck, AsksRun, AsksJudge, AsksReplay, AsksRequire, AsksMigrate, AsksVariants, AsksContinue, AsksCollect, AsksCollectRun, AsksLoad, ChoiceSource, NoChoices, ChoicesIn, ChoicesBy}
 use Rattle.debug_outcome.specs.Loads.{file_named, files_named}
 use Rattle.debug_outcome.specs.Traces.{Wanted}
 
@@ -74,3 +74,4 @@ wanted_by (AsksVariants file inputs sequence bound) = judge_files file inputs se
 wanted_by (AsksContinue file inputs sequence choices count bound) = continue_files file inputs sequence choices
 wanted_by (AsksCollect file) = file_named file original_bytes ∷ []
 wanted_by (AsksCollectRun file inputs choices turns) = collect_files file inputs choices
+wanted_by (AsksLoad n) = []

@@ -2,10 +2,10 @@
 use Rattle.std.specs.Prelude.{ℕ, List, Option, option_map}
 use Rattle.std.specs.Borrow.{Bor}
 use Rattle.debug_outcome.specs.declared.words.command.Command.{Command}
-use Rattle.debug_outcome.specs.declared.words.command.Command.TheVariants.{Print, Check, Run, Judge, Replay, Require, Migrate, Variants, Continue, Collect, CollectRun}
+use Rattle.debug_outcome.specs.declared.words.command.Command.TheVariants.{Print, Check, Run, Judge, Replay, Require, Migrate, Variants, Continue, Collect, CollectRun, Load}
 use Rattle.debug_outcome.specs.declared.words.command.Choices.{Choices}
 use Rattle.debug_outcome.specs.declared.words.command.Choices.TheVariants.{Empty, In, Seeded}
-use Rattle.debug_outcome.specs.words.Words.{Asked, AsksPrint, AsksCheck, AsksRun, AsksJudge, AsksReplay, AsksRequire, AsksMigrate, AsksVariants, AsksContinue, AsksCollect, AsksCollectRun, ChoiceSource, NoChoices, ChoicesIn, ChoicesBy}
+use Rattle.debug_outcome.specs.words.Words.{Asked, AsksPrint, AsksCheck, AsksRun, AsksJudge, AsksReplay, AsksRequire, AsksMigrate, AsksVariants, AsksContinue, AsksCollect, AsksCollectRun, AsksLoad, ChoiceSource, NoChoices, ChoicesIn, ChoicesBy}
 
 -- the bytes of a name, if there is one
 abbrev pub name_as : Option (Bor (List ℕ)) → Option (List ℕ)
@@ -26,6 +26,7 @@ asked_as (Require words) = AsksRequire words.file.now words.sequence.now words.c
 asked_as (Migrate words) = AsksMigrate words.file.now words.sequence.now
 asked_as (Collect file) = AsksCollect file.now
 asked_as (CollectRun words) = AsksCollectRun words.file.now (name_as words.inputs) (source_as words.choices) words.turns
+asked_as (Load n) = AsksLoad n
 asked_as (Variants words) = AsksVariants words.file.now (name_as words.inputs) words.sequence.now words.bound
 asked_as (Continue words) =
     AsksContinue words.judged.file.now (name_as words.judged.inputs) words.judged.sequence.now (source_as words.choices) words.count words.judged.bound

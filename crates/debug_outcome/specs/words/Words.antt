@@ -35,6 +35,8 @@ pub data Asked : Type 0 where
   AsksCollect : List ℕ → Asked
   -- the sequence that a run of the collecting text records, with inputs, choices and a number of turns as of a run
   AsksCollectRun : List ℕ → Option (List ℕ) → ChoiceSource → ℕ → Asked
+  -- collecting the events of a run of LOAD with so many producers, judging them and replaying them
+  AsksLoad : ℕ → Asked
 
 -- the value of decimal digits behind a value so far
 abbrev pub digits_value : ℕ → List ℕ → Option ℕ
@@ -58,6 +60,10 @@ number_of word = if begins_well word && nat_le (length word) 9 then option_and_t
 -- a number from 1 to 100,000 in decimal without leading zeros, so of at most six digits
 abbrev pub count_of : List ℕ → Option ℕ
 count_of word = if begins_well word && nat_le (length word) 6 then option_and_then (up_to 100000) (digits_value 0 word) else None
+
+-- a number from 1 to 100 in decimal without leading zeros, so of at most three digits
+abbrev pub producers_of : List ℕ → Option ℕ
+producers_of word = if begins_well word && nat_le (length word) 3 then option_and_then (up_to 100) (digits_value 0 word) else None
 
 -- the one digit 0
 abbrev pub is_zero : List ℕ → Bool
@@ -111,7 +117,7 @@ asks_continue file inputs sequence choices count number =
     (λ source. option_and_then (λ most. option_map (AsksContinue file (inputs_of inputs) sequence source most) (number_of number)) (count_of count))
     (choice_source choices)
 
--- the usages of two words
+-- the usages of two words, where the second is a file's name or a number
 abbrev pub asks_of_one : List ℕ → List ℕ → Option Asked
 asks_of_one command file =
     if bytes_eq command (codes "print")
@@ -120,7 +126,9 @@ asks_of_one command file =
     then Some (AsksCheck file)
     else (if bytes_eq command (codes "collect")
     then Some (AsksCollect file)
-    else None))
+    else (if bytes_eq command (codes "load")
+    then option_map AsksLoad (producers_of file)
+    else None)))
 
 -- the usages of three words
 abbrev pub asks_of_two : List ℕ → List ℕ → List ℕ → Option Asked
@@ -156,7 +164,7 @@ asks_of_six command file inputs sequence choices count number =
 
 -- print FILE, check FILE, replay FILE SEQUENCE, migrate FILE SEQUENCE, require FILE SEQUENCE CONSTRAINTS, run FILE IN CHOICES TURNS,
 -- judge FILE IN SEQUENCE STEPS, variants FILE IN SEQUENCE STEPS, continue FILE IN SEQUENCE CHOICES COUNT STEPS, collect FILE,
--- and collect-run FILE IN CHOICES TURNS
+-- collect-run FILE IN CHOICES TURNS, and load PRODUCERS
 abbrev pub asked_by : List (List ℕ) → Option Asked
 asked_by (command ∷ file ∷ []) = asks_of_one command file
 asked_by (command ∷ file ∷ sequence ∷ []) = asks_of_two command file sequence

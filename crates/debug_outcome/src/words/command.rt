@@ -1,7 +1,7 @@
 // The words that the program is called with.
 
 ghost use Rattle.std.specs.Prelude.{◌≡◌, ◌≤◌, map, option_map, string_bytes, length};
-ghost use Rattle.debug_outcome.specs.words.Words.{asked_by, asks_of_one, asks_of_two, asks_of_three, asks_of_four, asks_of_six, asks_run, asks_collect_run, asks_judge, asks_variants, asks_continue, inputs_of, choice_source, seed_of, number_of, count_of, digits_value, begins_well, is_zero};
+ghost use Rattle.debug_outcome.specs.words.Words.{AsksLoad, asked_by, asks_of_one, asks_of_two, asks_of_three, asks_of_four, asks_of_six, asks_run, asks_collect_run, asks_judge, asks_variants, asks_continue, inputs_of, choice_source, seed_of, number_of, count_of, producers_of, digits_value, begins_well, is_zero};
 ghost use Rattle.debug_outcome.specs.words.Commands.{asked_as, source_as, name_as};
 
 /// What the words ask for.
@@ -29,6 +29,8 @@ pub enum Command<'w> {
     Collect(&'w str),
     /// The sequence of events that a run of the collecting text of a program records.
     CollectRun(RunWords<'w>),
+    /// The collecting, judging and replaying of a run of LOAD with so many producers, from 1 to 100.
+    Load(u32),
 }
 
 /// Where the choices of a run, or of going on, come from.
@@ -95,8 +97,8 @@ pub enum NoWords {
 
 /// What the words ask for; none where they are no usage. The usages are `print FILE`, `check FILE`, `replay FILE SEQUENCE`,
 /// `migrate FILE SEQUENCE`, `require FILE SEQUENCE CONSTRAINTS`, `run FILE IN CHOICES TURNS`, `judge FILE IN SEQUENCE STEPS`,
-/// `variants FILE IN SEQUENCE STEPS`, `continue FILE IN SEQUENCE CHOICES COUNT STEPS`, `collect FILE` and
-/// `collect-run FILE IN CHOICES TURNS`, where IN is a file's name, or `-` for no inputs, and
+/// `variants FILE IN SEQUENCE STEPS`, `continue FILE IN SEQUENCE CHOICES COUNT STEPS`, `collect FILE`,
+/// `collect-run FILE IN CHOICES TURNS` and `load PRODUCERS`, where IN is a file's name, or `-` for no inputs, and
 /// CHOICES a file's name, `-` for none, or `seed:` and a number from 0 to 18,446,744,073,709,551,615 without leading zeros. It takes no memory.
 #[tactic(auto, using(crate::proofs::words::Usages::no_usage))]
 pub fn command_of<'w>(words: &'w [String]) -> Option<Command<'w>>
@@ -150,8 +152,20 @@ fn of_one<'w>(command: &str, file: &'w str) -> Option<Command<'w>>
         Some(Command::Check(file))
     } else if command == "collect" {
         Some(Command::Collect(file))
+    } else if command == "load" {
+        load_of(file)
     } else {
         None
+    }
+}
+
+// LOAD with as many producers as the word says.
+fn load_of<'w>(word: &str) -> Option<Command<'w>>
+    ensures { option_map asked_as result ≡ option_map AsksLoad (producers_of word.now) }
+{
+    match producers_of(word.as_bytes()) {
+        Some(n) => Some(Command::Load(n)),
+        None => None,
     }
 }
 
@@ -440,6 +454,20 @@ fn count_of(word: &[u8]) -> Option<u32>
     if begins_well(word) && word.len() <= 6 {
         match value_of(word) {
             Some(n) => { if n <= 100_000 { Some(n as u32) } else { None } }
+            None => None,
+        }
+    } else {
+        None
+    }
+}
+
+// The number from 1 to 100 that the word gives.
+fn producers_of(word: &[u8]) -> Option<u32>
+    ensures { result ≡ producers_of word.now }
+{
+    if begins_well(word) && word.len() <= 3 {
+        match value_of(word) {
+            Some(n) => { if n <= 100 { Some(n as u32) } else { None } }
             None => None,
         }
     } else {

@@ -1,7 +1,7 @@
 use Rattle.std.proofs.Common.{◌≡◌, ◌++◌, length}
 use Rattle.ded_io.specs.Written.{each_text}
 use Rattle.debug_run.specs.texts.OutputText.{finished_lines}
-use Rattle.debug_collect.specs.Recorded.{ended_line}
+use Rattle.collect_runs.specs.files.Files.{ended_line}
 use Rattle.debug_collect.proofs.recording.put_finished.Given as goal
 
 -- the lines so far and those that are left are those of the output

@@ -1,10 +1,22 @@
 use Rattle.std.proofs.Common.{List, ℕ, inl, subst}
+use Rattle.ada_tree.specs.PlainProgram.{plain_program}
+use Rattle.syn_event.specs.declared.numbering.Mode.TheVariants.{Original}
 use Rattle.debug_outcome.specs.Coming.{Comes, Never}
 use Rattle.debug_outcome.specs.files.Giving.{given_as, inputs_in}
 use Rattle.debug_outcome.proofs.Comings.{comes_more}
 use Rattle.debug_core.specs.CollectRunMeaning.{CollectRunMeans, RecordsUnder}
+use Rattle.debug_core.specs.LegalTexts.{IsLegalText}
 use Rattle.debug_core.specs.inner.Started.{setup_of}
+use Rattle.debug_core.proofs.Originals.{read_is_original}
 use Rattle.debug_core.proofs.collect_run_command.record_files.Goals as goal
+
+pub record_under-requires-clause-legal : goal.record_under-requires-clause-legal
+record_under-requires-clause-legal g c =
+    let legal : IsLegalText _ Original (plain_program c.in-Ok.start.legal.program) c.in-Ok.start.legal.types c.in-Ok.start.legal.numbers = c.in-Ok.ensures.start.is_legal in
+    record {
+      original = read_is_original c.args.found.now.start.text.items (plain_program c.in-Ok.start.legal.program) c.in-Ok.start.legal.types c.in-Ok.start.legal.numbers c.requires.0 legal;
+      own = legal.legal;
+    }
 
 pub returns-in-Ok : goal.returns-in-Ok
 returns-in-Ok g c =

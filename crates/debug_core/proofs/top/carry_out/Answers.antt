@@ -1,3 +1,9 @@
+use Rattle.std.proofs.Common.{ℕ, [], inl, refl}
+use Rattle.debug_outcome.specs.Coming.{Never}
+use Rattle.debug_outcome.proofs.Comings.{comes_more}
+use Rattle.debug_outcome.specs.words.Words.{AsksLoad}
+use Rattle.debug_load.specs.LoadOutcomes.{LoadMeans}
+use Rattle.debug_core.specs.Answers.{CallsFor}
 use Rattle.debug_core.proofs.top.carry_out.Goals as goal
 
 pub returns-in-Check : goal.returns-in-Check
@@ -29,3 +35,15 @@ returns-in-Collect g c = rw c.in-Collect.is c.collect_command.ensures
 
 pub returns-in-CollectRun : goal.returns-in-CollectRun
 returns-in-CollectRun g c = rw c.in-CollectRun.is c.collect_run_command.ensures
+
+pub write_load-requires : goal.write_load-requires
+write_load-requires g c = c.requires c.in-Load.n c.in-Load.is
+
+-- no file is loaded
+pub returns-in-Load : goal.returns-in-Load
+returns-in-Load g c = rw c.in-Load.is (record {
+  loads = [];
+  led = refl;
+  is_so = comes_more (LoadMeans c.in-Load.n) (CallsFor (AsksLoad c.in-Load.n) (g.F.Files.told c.args.files.now) (g.F.Files.faults c.args.files.now) (g.F.Files.faults c.args.files.now) []) Never Never _ _ _ _ c.write_load.result
+      (λ o means. inl (record { contents = []; loaded = record { are = tt; were = refl }; means = means })) (λ o never. never) c.write_load.ensures;
+})

@@ -1,11 +1,16 @@
-use Rattle.std.proofs.Common.{Option, [], refl, subst}
+use Rattle.std.proofs.Common.{Option, Some, [], ap, map, refl, string_bytes, subst, sym, ◌∙◌}
 use Rattle.debug_outcome.specs.words.Words.{Asked}
 use Rattle.debug_outcome.specs.words.Commands.{asked_as}
 use Rattle.debug_outcome.specs.Delivery.{Sides}
 use Rattle.debug_outcome.specs.declared.refusal.Refusal.TheVariants.{Usage}
 use Rattle.debug_outcome.proofs.Comings.{ends_done, ends_stopped, told_alone}
 use Rattle.debug_core.specs.Answers.{Answers, CallsFor, GrowsFor}
+use Rattle.debug_core.proofs.FewProducers.{few_producers}
 use Rattle.debug_core.proofs.top.debug_main.Goals as goal
+
+-- a number of producers in the words is few
+pub carry_out-requires : goal.carry_out-requires
+carry_out-requires g c n is = few_producers (map string_bytes c.args.words.now) n (ap (λ x. Some (asked_as x)) (sym is) ∙ c.in-Some.ensures)
 
 pub returns-in-Ok : goal.returns-in-Ok
 returns-in-Ok g c =

@@ -1,0 +1,11 @@
+pub mod Counting
+pub mod Front
+pub mod Feasible
+pub mod ManyEvents
+pub mod Original
+pub mod Collecting
+pub mod ReplayTexts
+pub mod Ran
+pub mod Reading
+pub mod Meant
+pub mod OneLoading

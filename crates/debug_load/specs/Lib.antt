@@ -1,0 +1,2 @@
+pub mod LoadOutcomes
+pub mod inner
