@@ -1,0 +1,21 @@
+-- What the tasks of a collecting program with abort statements owe: they imitate those of the copy (this project's rule).
+use Rattle.std.specs.Prelude.{ℕ, suc, List}
+use Rattle.event_machine.specs.States.{Ops, Seat, State}
+use Rattle.run_laws.specs.imitation.Imitations.{Original}
+use Rattle.run_laws.specs.imitation.Imitating.{ReachesAtLast, ImitatesWhere, OpensAs}
+use Rattle.abort_collecting.specs.Copies.{Copy}
+use Rattle.abort_collecting.specs.Settings.{Setting, twin, out_of, opening_copy}
+use Rattle.abort_collecting.specs.inner.Beside.{IsFoundBeside}
+
+module _ {o : Original} (x : Setting o) {K : Type 0} (q : Ops K) (out : K → List ℕ) (Meets : K → Copy o.L → Type 0) where
+  -- After finitely many local steps that write nothing it meets this state.
+  abbrev pub Reaches : K → Copy o.L → Type 0
+  Reaches k m = ReachesAtLast q out Meets (λ j. Unit {0}) k m
+
+  -- The tasks do what those of the copy do, in each world that the copy comes to.
+  abbrev pub Imitates : Type 0
+  Imitates = ImitatesWhere q out Meets (λ k. Unit {0}) (twin x) (out_of x) (IsFoundBeside x)
+
+  -- The state opens a collecting program: each task reaches the start of the original's, and the recorder that it is before its header.
+  abbrev pub OpensSo : State (ℕ → Seat K) → Type 0
+  OpensSo at = OpensAs q out Meets (λ k. Unit {0}) (suc o.p.size) (opening_copy x) at

@@ -1,0 +1,13 @@
+pub mod Names
+pub mod Places
+pub mod AbortTeller
+pub mod Noting
+pub mod Calling
+pub mod Serving
+pub mod Waiting
+pub mod AbortStmts
+pub mod Recording
+pub mod AbortTree
+pub mod AbortNumbers
+pub mod Promised
+pub mod examples

@@ -1,0 +1,10 @@
+pub mod Tables
+pub mod Stepping
+pub mod Finding
+pub mod Valuing
+pub mod Keeping
+pub mod Writing
+pub mod Striking
+pub mod Starting
+pub mod Hearing
+pub mod Taking

@@ -1,0 +1,4 @@
+pub mod Noting
+pub mod Ending
+pub mod Trying
+pub mod Pairs

@@ -1,0 +1,4 @@
+pub mod recorder
+pub mod translation
+pub mod telling
+pub mod starts

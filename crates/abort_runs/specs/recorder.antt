@@ -1,0 +1,4 @@
+pub mod Recorders
+pub mod Telling
+pub mod States
+pub mod Laws

@@ -1,0 +1,1 @@
+//! How the tasks of a collecting text with abort statements tell the recorder.

@@ -1,0 +1,2 @@
+pub mod legal
+pub mod typed

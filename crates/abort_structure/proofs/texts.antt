@@ -1,0 +1,4 @@
+pub mod Named
+pub mod Listed
+pub mod Rooted
+pub mod Numbered

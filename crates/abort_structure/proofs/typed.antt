@@ -1,0 +1,11 @@
+pub mod Tables
+pub mod Aborting
+pub mod Noted
+pub mod Recorder
+pub mod Places
+pub mod Inside
+pub mod Typed
+pub mod Declared
+pub mod Names
+pub mod Apart
+pub mod Language

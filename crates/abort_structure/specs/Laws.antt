@@ -1,0 +1,28 @@
+-- The laws of the collecting text of each legal program in which abort statements can stand (this project's rule). They are told of programs without abort statements too.
+use Rattle.std.specs.Prelude.{◌≡◌}
+use Rattle.ada_tree.specs.PlainProgram.{PProgram}
+use Rattle.ada_tree.specs.WellPlaced.{IsWellPlaced}
+use Rattle.ada_static_rules.specs.Refusals.{types_in}
+use Rattle.syn_event.specs.AllNumbers.{all_numbers}
+use Rattle.legal_programs.specs.literals.Colours.{coloured}
+use Rattle.normal_laws.specs.runs.forms.Choosing.{choosing}
+use Rattle.normal_laws.specs.runs.forms.Normalisable.{numbers_of}
+use Rattle.normal_laws.specs.existence.Laws.{IsLegalOriginal}
+use Rattle.abort_model.specs.AbortTree.{abort_tree}
+use Rattle.abort_model.specs.AbortNumbers.{abort_numbers}
+
+-- the text of a program, by its own types and numbers
+abbrev pub text_for : PProgram → PProgram
+text_for p = abort_tree p (types_in p) (numbers_of p)
+
+-- The text of a legal program is well placed.
+abbrev pub AbortIsPlaced : Type 0
+AbortIsPlaced = (p : PProgram) → IsLegalOriginal p → IsWellPlaced (text_for p)
+
+-- It has the numbers of the definition.
+abbrev pub AbortHasNumbers : Type 0
+AbortHasNumbers = (p : PProgram) → IsLegalOriginal p → all_numbers (types_in (text_for p)) (text_for p) ≡ abort_numbers p (types_in p) (numbers_of p)
+
+-- Two programs are legal: one in which a variable chooses a member of an array of tasks, and one with an array of tasks whose index is an enumeration.
+abbrev pub IsMet : Type 0
+IsMet = IsLegalOriginal choosing × IsLegalOriginal coloured

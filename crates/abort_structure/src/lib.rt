@@ -1,0 +1,18 @@
+//! What a collecting text of a program with abort statements has in common with the normal form that it is made from, part by part, and what is so of
+//! the text of each legal program.
+#![tactic(auto)]
+
+pub mod asked;
+pub mod declares_once;
+pub mod placed;
+pub mod texts;
+
+ghost use Rattle.abort_structure.specs.Laws.{AbortHasNumbers, AbortIsPlaced, IsMet};
+
+/// Carries the laws of the collecting text of each legal program in which abort statements can stand, whether they do or not. It is well placed
+/// (`placed`), so that it can be printed, and has the numbers of the definition (`numbered`). Two programs are legal ones (`met`).
+pub fn laws()
+    ensures placed { AbortIsPlaced }
+    ensures numbered { AbortHasNumbers }
+    ensures met { IsMet }
+{}
