@@ -11,6 +11,9 @@ import re
 TRANSCRIPT = pathlib.Path(__file__).resolve().parent.parent / "crates/ded_cases/stdout"
 
 Call = collections.namedtuple("Call", "name words files")
+# A run as it is told: its events, how it ended, and of each task the name and what it wrote.
+Told = collections.namedtuple("Told", "events ending names written")
+ENDINGS = {0: "ended", 10: "stuck", 11: "turns"}
 
 
 def written_out(body, texts):
@@ -75,3 +78,17 @@ def all_calls(paths, commands):
 def files_named(words):
     """The words of a call of run or judge that name files."""
     return [it for it in words[1:4] if it != "-" and not (words[0] == "run" and it.startswith("seed:"))]
+
+
+def told_run(status, output):
+    """What `run` tells; events of the text that stand for none are left out."""
+    head, tail = re.split(r"(?m)^end .*\n", output)
+    events = [line for line in head.splitlines()[1:] if not line.startswith("- ")]
+    names, written = [], []
+    for line in tail.splitlines():
+        if line.startswith("task "):
+            names.append(line.split(" ", 2)[2])
+            written.append("")
+        else:
+            written[-1] += line[2:] + ("\n" if line[0] == "|" else "")
+    return Told(events, ENDINGS[status], names, written)
