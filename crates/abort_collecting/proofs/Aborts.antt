@@ -164,7 +164,7 @@ module _ {o : Original} (x : Setting o) (past : List Event) (d : World o.L) (w :
       go (OwnReturned l m form e i q offer here met was) = none (Owing c (Returned m) l) q refl
       go (OwnLost l due form e i q behind offer here met was) = none (Owing c due l) q refl
       go (OwnOver l s q in_s offer has once here was) = none (Owing c (Over s) l) q refl
-      go (OwnRefusing l s q here) = none (Refusing c s l) q refl
+      go (OwnRefusing l s q here gone) = none (Refusing c s l) q refl
       go (OwnLeaving l q offer other here) = none (Leaving c l) q refl
 
   abbrev l : o.L

@@ -42,7 +42,7 @@ module _ {o : Original} (x : Setting o) where
     own_on t k here met closed (OwnReturned l m form e i q offer at two was) = OwnReturned l m form e i q offer (here ∙ at) (met ∙ two) was
     own_on t k here met closed (OwnLost l due form e i q behind offer at three was) = OwnLost l due form e i q behind offer (here ∙ at) (met ∙ three) was
     own_on t k here met closed (OwnOver l c q below offer has once at was) = OwnOver l c q below offer has once (⊎_elim (λ p. inl (here ∙ p)) (λ p. inr (here ∙ p)) at) was
-    own_on t k here met closed (OwnRefusing l c q at) = OwnRefusing l c q (here ∙ at)
+    own_on t k here met closed (OwnRefusing l c q at gone) = OwnRefusing l c q (here ∙ at) (closed c gone)
     own_on t k here met closed (OwnLeaving l q offer other at) = OwnLeaving l q offer other (here ∙ at)
 
     pub seat_on : (r r' : Copy o.L) (t : ℕ) → IsSame t → StayClosed → ((k : Copy o.L) → Hears x r t k → Hears x r' t k × (heard x r k ≡ heard x r' k)) →

@@ -444,8 +444,8 @@ module _ {o : Original} (x : Setting o) (past : List Event) where
           (λ at. Shared c v form f j (ended_same false b' s in_s ∙ at_s) calls at (record { d = d; come = reached_come o past d inv.reached; runs = inv.runs; at = here_s }))
 
       -- the caller is aborted
-      refused : Goal true (record { gone = b.gone; met = b.met; acceptor = b.acceptor; events = b.events ++ [] })
-      refused = same_done true (OwnRefusing l s (ap (answered o.p true) q) here)
+      refused : is_closed (d.tasks s).standing ≡ true → Goal true (record { gone = b.gone; met = b.met; acceptor = b.acceptor; events = b.events ++ [] })
+      refused closed = same_done true (OwnRefusing l s (ap (answered o.p true) q) here closed)
 
       tells_begun : Goal (b.gone s) (recorded b (HasBegun s e i c))
       tells_begun = go (inv.seats s in_s)
@@ -476,7 +476,7 @@ module _ {o : Original} (x : Setting o) (past : List Event) where
               let is : g ≡ v = ap (state_of v) same in
               with_gone false (inv.gone s in_s ∙ ap (λ (k : Seat o.L). is_closed k.standing) here_s)
               (begins form f j (at ∙ ap₂ (λ k u. record { local = Calling s k; standing = Served u false }) is (by_c a g at)) (ap o.p.ops.offer (sym is) ∙ calls) (here_s ∙ ap live is))
-          go (Gone closed closed' outs) = with_gone true (inv.gone s in_s ∙ closed') refused
+          go (Gone closed closed' outs) = with_gone true (inv.gone s in_s ∙ closed') (refused closed')
 
     -- ---- the end of a rendezvous
 
@@ -777,5 +777,5 @@ module _ {o : Original} (x : Setting o) (past : List Event) where
         go (OwnLost l due form e i q behind offer here met was) = lost_ends l due form e i q behind offer here met
         go (OwnOver l s q in_s offer has once here was) = by_note (HasFinished c s) (says (Owing c (Over s) l) q)
             (⊎_elim (λ f. tells_over l s q in_s offer has once f) (λ f. told_before l s q in_s offer has once f) here)
-        go (OwnRefusing l s q here) = absurd (finish_tells x.note (tells_so (Refusing c s l) q))
+        go (OwnRefusing l s q here gone) = absurd (finish_tells x.note (tells_so (Refusing c s l) q))
         go (OwnLeaving l q offer other here) = absurd (end_tells x.note (tells_so (Leaving c l) q))

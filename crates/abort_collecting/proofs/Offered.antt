@@ -93,7 +93,7 @@ module _ {o : Original} (x : Setting o) where
         go (OwnReturned l m form e i q offer at met was) = clash (Owing t (Returned m) l) q tells
         go (OwnLost l due form e i q behind offer at met was) = clash (Owing t due l) q tells
         go (OwnOver l c q below offer has once at was) = clash (Owing t (Over c) l) q tells
-        go (OwnRefusing l c q at) = clash (Refusing t c l) q finishes
+        go (OwnRefusing l c q at gone) = clash (Refusing t c l) q finishes
         go (OwnLeaving l q offer other at) = clash (Leaving t l) q ends
 
     pub waits_at : (test : Choice → Bool) → waits_with test (copy_offer o.p x.note k) ≡ true → BasedOn (waits_with test)
@@ -113,7 +113,7 @@ module _ {o : Original} (x : Setting o) where
         go (OwnReturned l m form e i q offer at met was) = clash (Owing t (Returned m) l) q refl
         go (OwnLost l due form e i q behind offer at met was) = clash (Owing t due l) q refl
         go (OwnOver l c q below offer has once at was) = clash (Owing t (Over c) l) q refl
-        go (OwnRefusing l c q at) = clash (Refusing t c l) q refl
+        go (OwnRefusing l c q at gone) = clash (Refusing t c l) q refl
         go (OwnLeaving l q offer other at) = clash (Leaving t l) q refl
 
     -- The task calls: an original entry, or the recorder's.
@@ -148,13 +148,13 @@ module _ {o : Original} (x : Setting o) where
         go (OwnReturned l m form f j q offer at met was) = tells_at (ap (copy_offer o.p x.note) q)
         go (OwnLost l due form f j q behind offer at met was) = tells_at (ap (copy_offer o.p x.note) q)
         go (OwnOver l c q below offer has once at was) = tells_at (ap (copy_offer o.p x.note) q)
-        go (OwnRefusing l c q at) = clash (Refusing t c l) q refl
+        go (OwnRefusing l c q at gone) = clash (Refusing t c l) q refl
         go (OwnLeaving l q offer other at) = clash (Leaving t l) q refl
 
     -- The task is at the end of an accept body: of a rendezvous that was told, or of a refused one.
     pub data FinishOn : Type 0 where
       AtEndOf : (l : o.L) → k ≡ Based t l → d t ≡ live l → o.p.ops.offer l ≡ Finishes → FinishOn
-      AtRefusal : (l : o.L) (c : ℕ) → k ≡ Refusing t c l → d t ≡ live l → FinishOn
+      AtRefusal : (l : o.L) (c : ℕ) → k ≡ Refusing t c l → d t ≡ live l → is_closed (d c).standing ≡ true → FinishOn
 
     pub finish_at : is_finish (copy_offer o.p x.note k) ≡ true → FinishOn
     finish_at h = go own
@@ -170,7 +170,7 @@ module _ {o : Original} (x : Setting o) where
         go (OwnReturned l m form e i q offer at met was) = clash (Owing t (Returned m) l) q refl
         go (OwnLost l due form e i q behind offer at met was) = clash (Owing t due l) q refl
         go (OwnOver l c q below offer has once at was) = clash (Owing t (Over c) l) q refl
-        go (OwnRefusing l c q at) = AtRefusal l c q at
+        go (OwnRefusing l c q at gone) = AtRefusal l c q at gone
         go (OwnLeaving l q offer other at) = clash (Leaving t l) q refl
 
     -- The task is at its end: it has told so, or is the main program.
@@ -203,7 +203,7 @@ module _ {o : Original} (x : Setting o) where
         go (OwnReturned l m form e i q offer at met was) = clash (Owing t (Returned m) l) q refl
         go (OwnLost l due form e i q behind offer at met was) = clash (Owing t due l) q refl
         go (OwnOver l c q below offer has once at was) = clash (Owing t (Over c) l) q refl
-        go (OwnRefusing l c q at) = clash (Refusing t c l) q refl
+        go (OwnRefusing l c q at gone) = clash (Refusing t c l) q refl
         go (OwnLeaving l q offer other at) = inr (record { l = l; is = q; other = other; at = at })
 
   -- ---- in a world
@@ -255,7 +255,7 @@ module _ {o : Original} (x : Setting o) where
         go (OwnReturned l m form e i q offer at met was) = before (Owing t (Returned m) l) q was
         go (OwnLost l due form e i q behind offer at met was) = before (Owing t due l) q was
         go (OwnOver l c q below offer has once at was) = before (Owing t (Over c) l) q was
-        go (OwnRefusing l c q at) = absurd (finish_tells x.note (ap (copy_offer o.p x.note) (sym q) ∙ tells))
+        go (OwnRefusing l c q at gone) = absurd (finish_tells x.note (ap (copy_offer o.p x.note) (sym q) ∙ tells))
         go (OwnLeaving l q offer other at) = absurd (end_tells x.note (ap (copy_offer o.p x.note) (sym q) ∙ tells))
 
     -- What a test on an offer says: who offers is in such a state.

@@ -68,7 +68,7 @@ module _ {o : Original} (x : Setting o) where
       go (OwnLost l due form e i q behind offer at met was) = at_seat (Owing t due l) (live (o.p.ops.raised l)) q at (sym (x.silent.raised l))
       go (OwnOver l c q below offer has once at was) = ⊎_elim (λ h. at_seat (Owing t (Over c) l) (live l) q h refl)
           (λ h. at_seat (Owing t (Over c) l) (live (o.p.ops.finished l)) q h (sym (x.silent.finished l))) at
-      go (OwnRefusing l c q at) = at_seat (Refusing t c l) (live l) q at refl
+      go (OwnRefusing l c q at gone) = at_seat (Refusing t c l) (live l) q at refl
       go (OwnLeaving l q offer other at) = at_seat (Leaving t l) (completed l) q at refl
 
   -- Each task has written what the original's has.

@@ -50,7 +50,7 @@ module _ {o : Original} (x : Setting o) (b : Book) (d : ℕ → Seat o.L) where
       go (OwnReturned l m form e i q offer at met was) = absurd (none (live (o.p.ops.resumed m l)) at refl)
       go (OwnLost l due form e i q behind offer at met was) = absurd (none (live (o.p.ops.raised l)) at refl)
       go (OwnOver l u q in_u offer has once at was) = absurd (⊎_elim (λ f. none (live l) f refl) (λ f. none (live (o.p.ops.finished l)) f refl) at)
-      go (OwnRefusing l u q at) = absurd (none (live l) at refl)
+      go (OwnRefusing l u q at gone) = absurd (none (live l) at refl)
       go (OwnLeaving l q offer other at) = absurd (none (completed l) at refl)
 
   -- whom it is behind a rendezvous with
@@ -96,5 +96,5 @@ module _ {o : Original} (x : Setting o) (b : Book) (d : ℕ → Seat o.L) where
             ap₂ (λ v j. times v (o.p.ops.callers (o.p.ops.finished j))) (sym e) (sym f) ∙ once,
             subst (CameFree o t) f was,
           )
-      go (OwnRefusing l u' q at) = absurd (none (Refusing t u' l) q refl)
+      go (OwnRefusing l u' q at gone) = absurd (none (Refusing t u' l) q refl)
       go (OwnLeaving l q offer other at) = absurd (none (Leaving t l) q refl)

@@ -26,7 +26,7 @@ use Rattle.abort_collecting.specs.inner.Beside.{book_of, heard, Hears, OwnAt, Ow
 use Rattle.abort_collecting.proofs.Reading.{is_based, is_owing, is_begun, is_back, is_over, back_state, due_of, state_of, differ, not_owing}
 use Rattle.abort_collecting.proofs.Offered.{FinishOn, AtEndOf, AtRefusal, finish_at, Offers, OffersOwn, OffersRecorder, offers_by}
 use Rattle.abort_collecting.proofs.Singles.{RecorderOffers, IsRecording, IsNoted, IsStriking, recorder_offers, of_task}
-use Rattle.abort_collecting.proofs.Pairs.{IsFirst, first_is, none_served, pair_tasks, pair_last, pair_first, pair_other, pair_begun, pair_over, pair_acts, records_pair}
+use Rattle.abort_collecting.proofs.Pairs.{IsFirst, first_is, pair_tasks, pair_last, pair_first, pair_other, pair_begun, pair_over, pair_acts, records_pair}
 use Rattle.abort_collecting.proofs.Meetings.{served_by_one, free_unserved, served_below}
 use Rattle.common_lemmas.proofs.Numbers.{equal_self, unequal_above}
 
@@ -205,8 +205,21 @@ module _ {o : Original} (x : Setting o) (past : List Event) (r : Copy o.L) (d : 
         go (Apart b v form e i at_c calls owns here_c met) = absurd (true≢false (sym first'.served ∙ ap (λ (f : Seat o.L). is_served_by a f.standing) here_c))
         go (Gone closed closed' outs) = parts_gone a c rest (Based a l) over' below at has' refl refl closed closed' outs refl refl own'
 
+  -- who is closed in the original and served here by one of its tasks is closed here too, and has written the same
+  pub closed_here : (a c : ℕ) → a < o.p.size → is_served_by a (w.tasks c).standing ≡ true → is_closed (d.tasks c).standing ≡ true →
+      (is_closed (w.tasks c).standing ≡ true) × (out_of x (w.tasks c).local ≡ o.out (d.tasks c).local)
+  closed_here a c below served closed = go (inv.seats c (served_below x past r d w inv runs sound c a served))
+    where
+      go : SeatAt x (book_of r) w.tasks d.tasks r c → (is_closed (w.tasks c).standing ≡ true) × (out_of x (w.tasks c).local ≡ o.out (d.tasks c).local)
+      go (Free k at own) = absurd (true≢false (sym served ∙ ap (λ (f : Seat (Copy o.L)). is_served_by a f.standing) at))
+      go (Telling k at hears own was) =
+          let e : recorder x ≡ a = eqb-true (recorder x) a (ap (λ (f : Seat (Copy o.L)). is_served_by a f.standing) (sym at) ∙ served) in absurd (omega (arith, e, below))
+      go (Shared b v form e i at calls here was) = absurd (true≢false (sym closed ∙ ap (λ (f : Seat o.L). is_closed f.standing) here))
+      go (Apart b v form e i at calls owns here met) = absurd (true≢false (sym closed ∙ ap (λ (f : Seat o.L). is_closed f.standing) here))
+      go (Gone closed' closed'' outs) = (closed', outs)
+
   -- a task at the end of a refused rendezvous
-  module _ (a c : ℕ) (l : o.L) (below : a < o.p.size) (at : w.tasks a ≡ live (Refusing a c l)) (here : d.tasks a ≡ live l) where
+  module _ (a c : ℕ) (l : o.L) (below : a < o.p.size) (at : w.tasks a ≡ live (Refusing a c l)) (here : d.tasks a ≡ live l) (closed : is_closed (d.tasks c).standing ≡ true) where
     abbrev rest' : List ℕ
     rest' = o.p.ops.callers l
 
@@ -216,48 +229,30 @@ module _ {o : Original} (x : Setting o) (past : List Event) (r : Copy o.L) (d : 
     abbrev z : Copy o.L
     z = Based a l
 
+    pub refused_here : (is_closed (w.tasks c).standing ≡ true) × (out_of x (w.tasks c).local ≡ o.out (d.tasks c).local)
+    refused_here = closed_here a c below (first a c rest' k z below at refl refl refl).served closed
+
     pub finish_refused : IsBeside x (moved (twin x) w (Happen (E a)))
-    finish_refused = go (inv.seats c (below' a c rest' k z below at refl refl refl))
-      where
-        there : IsFirst w.tasks a c rest'
-        there = first a c rest' k z below at refl refl refl
+    finish_refused = parts_gone a c rest' k z below at refl refl refl refused_here.0 closed refused_here.1 refl refl (OwnBased l refl here)
 
-        -- the original's does not serve it
-        unserved : is_served_by a (d.tasks c).standing ≡ false
-        unserved = none_served d.tasks below_sound a c (ap (λ (s : Seat o.L). is_closed s.standing) here) (ap (λ (s : Seat o.L). times c (o.p.ops.callers s.local)) here ∙ there.once)
+  -- who is served in a rendezvous that is refused is closed as it ends
+  pub refused_closed : (a u c : ℕ) (l : o.L) → (w.tasks a).local ≡ Refusing u c l → happens (twin x) w.tasks (E a) ≡ true → is_closed (w.tasks c).standing ≡ true
+  refused_closed a u c l is h = go (offers_by x past r d w inv is_finish a h)
+    where
+      go : Offers x past r d w inv is_finish a → is_closed (w.tasks c).standing ≡ true
+      go (OffersOwn below k at own passes) = inner (finish_at x (book_of r) d.tasks a k own passes)
+        where
+          is' : k ≡ Refusing u c l
+          is' = ap (λ (s : Seat (Copy o.L)). s.local) (sym at) ∙ is
 
-        own' : OwnAt x (book_of r) d.tasks a z
-        own' = OwnBased l refl here
-
-        here_alone : (v : o.L) (form : CallForm) (e : ℕ) (i : ℤ) → w.tasks c ≡ record { local = Calling c v; standing = Served a false } → o.p.ops.offer v ≡ Calls form e i →
-            d.tasks c ≡ live v → (book_of r).met c ≡ 0 → IsBeside x (moved (twin x) w (Happen (E a)))
-        here_alone v form e i at_c calls here_c met =
-            let y : Seat (Copy o.L) = live (Calling c v) in
-            let lets : let_go ((twin x).ops.resumed k) a (w.tasks c) ≡ y = ap (let_go ((twin x).ops.resumed k) a) at_c ∙
-            let_go_served ((twin x).ops.resumed k) a (record { local = Calling c v; standing = Served a false }) (equal_self a) in
-            let o' : (c == a) ≡ false = other a c rest' k z below at refl refl refl in
-            let n : c < suc o.p.size = in_c a c rest' k z below at refl refl refl in
-            let m : a < suc o.p.size = in_a a c rest' k z below at refl refl refl in
-            parts_to a c rest' k z below at refl refl refl y lets
-            (Free (Calling c v) (pair_last x past r d w inv runs c a o' n m y (live z)) (OwnCalling v form e i refl calls here_c met))
-            (Free z (pair_first x past r d w inv runs c a o' n m y (live z)) own')
-            (parts_begun a c rest' k z below at refl refl refl y lets (λ t. refl) refl (λ u f j h g p s. differ is_owing (Owing c (Begun u f j g) h) (Calling c v) refl refl (sym p)))
-            (parts_over a c rest' k z below at refl refl refl y lets refl
-            (λ t h g p open' s. absurd (differ is_owing (Owing c (Returned h) g) (Calling c v) refl refl (sym p)))
-            (λ u h p s. differ is_owing (Owing c (Over u) h) (w.tasks c).local refl (ap (λ (f : Seat (Copy o.L)). is_owing f.local) at_c) (sym p)))
-
-        by_a : (b : ℕ) (v : o.L) → w.tasks c ≡ record { local = Calling c v; standing = Served b false } → b ≡ a
-        by_a b v at_c = eqb-true b a (ap (λ (f : Seat (Copy o.L)). is_served_by a f.standing) (sym at_c) ∙ there.served)
-
-        go : SeatAt x (book_of r) w.tasks d.tasks r c → IsBeside x (moved (twin x) w (Happen (E a)))
-        go (Free k' at_c own) = absurd (true≢false (sym there.served ∙ ap (λ (f : Seat (Copy o.L)). is_served_by a f.standing) at_c))
-        go (Telling k' at_c hears own was) =
-            let e : recorder x ≡ a = eqb-true (recorder x) a (ap (λ (f : Seat (Copy o.L)). is_served_by a f.standing) (sym at_c) ∙ there.served) in absurd (omega (arith, e, below))
-        go (Shared b v form e i at_c calls here_c was) =
-            absurd (true≢false (sym (ap (λ (f : Seat o.L). is_served_by a f.standing) here_c ∙ ap (λ u. u == a) (by_a b v at_c) ∙ equal_self a) ∙ unserved))
-        go (Apart b v form e i at_c calls owns here_c met) =
-            here_alone v form e i (at_c ∙ ap (λ u. record { local = Calling c v; standing = Served u false }) (by_a b v at_c)) calls here_c met
-        go (Gone closed closed' outs) = parts_gone a c rest' k z below at refl refl refl closed closed' outs refl refl own'
+          inner : FinishOn x (book_of r) d.tasks a k own → is_closed (w.tasks c).standing ≡ true
+          inner (AtEndOf m q here offer) = absurd (differ is_based (Based a m) (Refusing u c l) refl refl (sym q ∙ is'))
+          inner (AtRefusal m s q here gone) =
+              let same : s ≡ c = ap (λ j. first_caller (copy_callers o.p j)) (sym q ∙ is') in
+              subst (λ v. is_closed (w.tasks v).standing ≡ true) same (refused_here a s m below (at ∙ ap live q) here gone).0
+      go (OffersRecorder e passes) =
+          let q : r ≡ Refusing u c l = ap (λ (s : Seat (Copy o.L)). s.local) (sym inv.at) ∙ (ap (λ t. (w.tasks t).local) (sym e) ∙ is) in
+          absurd (subst (RecorderAt x past w.tasks) q inv.records)
 
   -- ---- the recorder answers
 
@@ -360,7 +355,7 @@ module _ {o : Original} (x : Setting o) (past : List Event) (r : Copy o.L) (d : 
                 finished_there (OwnReturned l h form f i e offer here met was) = absurd (differ is_based (Based c (o.p.ops.finished m)) (Owing c (Returned h) l) refl refl e)
                 finished_there (OwnLost l due form f i e behind offer here met was) = absurd (differ is_based (Based c (o.p.ops.finished m)) (Owing c due l) refl refl e)
                 finished_there (OwnOver l u' e below offer has once here was) = absurd (differ is_based (Based c (o.p.ops.finished m)) (Owing c (Over u') l) refl refl e)
-                finished_there (OwnRefusing l u' e here) = absurd (differ is_based (Based c (o.p.ops.finished m)) (Refusing c u' l) refl refl e)
+                finished_there (OwnRefusing l u' e here gone) = absurd (differ is_based (Based c (o.p.ops.finished m)) (Refusing c u' l) refl refl e)
                 finished_there (OwnLeaving l e offer other here) = absurd (differ is_based (Based c (o.p.ops.finished m)) (Leaving c l) refl refl e)
 
                 back_unserved : (u : ℕ) (m v : o.L) → (w.tasks u).local ≡ Owing u (Returned m) v → is_closed (w.tasks u).standing ≡ false → is_served_by c (w.tasks u).standing ≡ false
@@ -408,7 +403,7 @@ module _ {o : Original} (x : Setting o) (past : List Event) (r : Copy o.L) (d : 
         where
           inner : FinishOn x (book_of r) d.tasks a k own → IsBeside x (moved (twin x) w (Happen (E a)))
           inner (AtEndOf l q here offer) = finish_told a l below (at ∙ ap live q) here offer
-          inner (AtRefusal l c q here) = finish_refused a c l below (at ∙ ap live q) here
+          inner (AtRefusal l c q here gone) = finish_refused a c l below (at ∙ ap live q) here gone
       go (OffersRecorder e passes) = inner (recorder_offers x past w.tasks r is_finish refl inv.records passes)
         where
           inner : RecorderOffers x r is_finish → IsBeside x (moved (twin x) w (Happen (E a)))

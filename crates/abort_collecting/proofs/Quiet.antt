@@ -99,7 +99,7 @@ module _ {o : Original} (x : Setting o) (past : List Event) (r : Copy o.L) (d : 
   free_rests t k at (OwnReturned l m form e i q offer here met was) free = absurd (no_telling t k at (ap (copy_offer o.p x.note) q))
   free_rests t k at (OwnLost l due form e i q behind offer here met was) free = absurd (no_telling t k at (ap (copy_offer o.p x.note) q))
   free_rests t k at (OwnOver l c q below offer has once here was) free = absurd (no_telling t k at (ap (copy_offer o.p x.note) q))
-  free_rests t k at (OwnRefusing l c q here) free = absurd (no_finish t k at (ap (copy_offer o.p x.note) q))
+  free_rests t k at (OwnRefusing l c q here gone) free = absurd (no_finish t k at (ap (copy_offer o.p x.note) q))
   free_rests t k at (OwnLeaving l q offer other here) free =
       absurd (calm.exit t (both (ap not (ne_eqb t 0 other)) (offers_at (twin x).ops is_end (w.tasks t) k at (ap (λ j. is_end (copy_offer o.p x.note j)) q))))
 

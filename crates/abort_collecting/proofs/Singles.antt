@@ -283,5 +283,5 @@ module _ {o : Original} (x : Setting o) where
           go (OwnReturned l m form e i q offer here met was) = clash (Owing t (Returned m) l) q refl
           go (OwnLost l due form e i q behind offer here met was) = clash (Owing t due l) q refl
           go (OwnOver l c q below' offer has once here was) = clash (Owing t (Over c) l) q refl
-          go (OwnRefusing l c q here) = clash (Refusing t c l) q refl
+          go (OwnRefusing l c q here gone) = clash (Refusing t c l) q refl
           go (OwnLeaving l q offer other here) = clash (Leaving t l) q refl

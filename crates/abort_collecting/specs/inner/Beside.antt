@@ -103,8 +103,8 @@ module _ {o : Original} (x : Setting o) where
       OwnOver : (l : o.L) (c : ℕ) → k ≡ Owing t (Over c) l → c < o.p.size → o.p.ops.offer l ≡ Finishes →
           o.p.ops.callers l ≡ c ∷ o.p.ops.callers (o.p.ops.finished l) →
           times c (o.p.ops.callers (o.p.ops.finished l)) ≡ 0 → (d t ≡ live l) ⊎ (d t ≡ live (o.p.ops.finished l)) → CameFree o t l → OwnAt t k
-      -- in the original the refused rendezvous never was
-      OwnRefusing : (l : o.L) (c : ℕ) → k ≡ Refusing t c l → d t ≡ live l → OwnAt t k
+      -- in the original the refused rendezvous never was, and the caller is completed or abnormal
+      OwnRefusing : (l : o.L) (c : ℕ) → k ≡ Refusing t c l → d t ≡ live l → is_closed (d c).standing ≡ true → OwnAt t k
       -- the original's task has completed
       OwnLeaving : (l : o.L) → k ≡ Leaving t l → o.p.ops.offer l ≡ Ends → (t ≡ 0 → ⊥) → d t ≡ completed l → OwnAt t k
 
