@@ -1,2 +1,3 @@
 pub mod legal
+pub mod scopes
 pub mod typed

@@ -3,4 +3,7 @@ pub mod Laws
 pub mod asked
 pub mod texts
 pub mod placed
+pub mod scopes
+pub mod declares_once
 pub mod typed
+pub mod checked

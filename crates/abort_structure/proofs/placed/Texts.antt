@@ -8,7 +8,7 @@ use Rattle.ada_tree.specs.Lexical.{is_upper_letter, is_digit, goes_on, IsIdentif
 use Rattle.abort_model.specs.Names.{taken_text, refused_text}
 
 -- digits alone stand in the text
-abbrev AllDigits : List ℕ → Type 0
+abbrev pub AllDigits : List ℕ → Type 0
 AllDigits t = AllByRecursion (λ b. is_digit b ≡ true) t
 
 digit-glyph : (d : ℕ) → d < 10 → is_digit (digit_glyph false d) ≡ true
@@ -30,7 +30,7 @@ onto-digits (suc k) n acc h = by_test (n / 10 == 0) (onto-digits k (n / 10) (dig
     by_test true g = ((digit-glyph (n % 10) (omega arith), h), omega arith)
     by_test false g = let few = g.1 in (g.0, omega (arith, few))
 
-decimal-digits : (n : ℕ) → AllDigits (decimal n) × (length (decimal n) ≤ 64)
+pub decimal-digits : (n : ℕ) → AllDigits (decimal n) × (length (decimal n) ≤ 64)
 unfolding digits
 decimal-digits n = onto-digits 64 n [] tt
 

@@ -29,7 +29,7 @@ all-places P x s most (suc n) le h =
 
 -- ---- the tasks of the text
 
-told-tasks : (x : AbortTeller) (names : List (List ℕ)) (ds : List PDecl) → tasks_in (map (abort_decl x names) ds) ≡ map (task_telling x.teller.added) (tasks_in ds)
+pub told-tasks : (x : AbortTeller) (names : List (List ℕ)) (ds : List PDecl) → tasks_in (map (abort_decl x names) ds) ≡ map (task_telling x.teller.added) (tasks_in ds)
 told-tasks x names [] = refl
 told-tasks x names (DTask t s ∷ ds) = ap (λ l. task_telling x.teller.added t ∷ l) (told-tasks x names ds)
 told-tasks x names (DTaskBody w objects its s ∷ ds) = told-tasks x names ds

@@ -38,7 +38,7 @@ none-each : {A : Type 0} (p : A → Bool) (xs : List A) → list_any p xs ≡ fa
 none-each p [] h = tt
 none-each p (y ∷ xs) h = let both = or_parts (p y) (list_any p xs) h in (both.0, none-each p xs both.1)
 
-differ-by : (a b : List ℕ) → (a ≡ b → ⊥) → bytes_eq a b ≡ false
+pub differ-by : (a b : List ℕ) → (a ≡ b → ⊥) → bytes_eq a b ≡ false
 differ-by a b n = by_test (bytes_eq a b) refl
   where
     by_test : (t : Bool) → bytes_eq a b ≡ t → t ≡ false

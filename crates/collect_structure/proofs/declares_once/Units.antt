@@ -21,6 +21,7 @@ use Rattle.syn_event.proofs.DeclLists.{listed_back}
 use Rattle.normal_model.specs.Making.{one}
 use Rattle.normal_model.specs.Ranges.{word_at}
 use Rattle.normal_laws.specs.structure.once.Apart.{IsFreeOf, IsFitIn}
+use Rattle.normal_laws.proofs.structure.once.Once.{free-front}
 use Rattle.normal_laws.specs.structure.once.Names.{body_names, entries_names, tasks_names, inner_names, bodies_names}
 use Rattle.normal_laws.proofs.structure.numbers.Listed.{IsOneBody}
 use Rattle.normal_laws.proofs.structure.numbers.Named.{Has}
@@ -67,12 +68,13 @@ loose_texts = caller_text ∷ answer_text ∷ part_text ∷ kind_text ∷ subjec
 abbrev pub IsLoose : List ℕ → ℕ → Type 0
 IsLoose F n = (is_predefined n ≡ false) × IsFreeOf F n
 
-module _ (q : PProgram) (F : List ℕ) (loose : AllByRecursion (IsLoose F) (ids q loose_texts)) where
+-- Beside fixed names F, where further names can be new too.
+module _ (q : PProgram) (F more : List ℕ) (loose : AllByRecursion (IsLoose F) (ids q loose_texts)) where
   abbrev pub n : AddedNames
   n = added_in (collect_names q)
 
   abbrev pub X : List ℕ
-  X = ids q new_texts
+  X = ids q new_texts ++ more
 
   abbrev Good : Naming → Type 0
   Good = IsGood F X
@@ -84,14 +86,14 @@ module _ (q : PProgram) (F : List ℕ) (loose : AllByRecursion (IsLoose F) (ids 
   fresh t h = pick q (IsLoose F) loose_texts loose t h
 
   other : (t : List ℕ) → Has new_texts t → (x : ℕ) → IsFreeOf X x → (id q t == x) ≡ false
-  other t h x f = pick-free q new_texts x f t h
+  other t h x f = pick-free q new_texts x (free-front (ids q new_texts) more x f) t h
 
   -- the two variables of a unit
   pub unit-fresh : (s : Span) → AreFresh F X (flat_map object_words (unit_declared n s))
   unit-fresh s = record {
     fresh = (fresh answer_text refl, (fresh part_text refl, tt));
     distinct = texts-distinct q (answer_text ∷ part_text ∷ []) (refl, (refl, tt)) (refl, (refl, tt));
-    apart = λ here h. (pick q (IsFreeOf here) new_texts h answer_text refl, (pick q (IsFreeOf here) new_texts h part_text refl, tt));
+    apart = λ here h. let told = all_front (IsFreeOf here) (ids q new_texts) more h in (pick q (IsFreeOf here) new_texts told answer_text refl, (pick q (IsFreeOf here) new_texts told part_text refl, tt));
     clear = λ x h. or_from (id q answer_text == x) ((id q part_text == x) || false) (other answer_text refl x h) (or_from (id q part_text == x) false (other part_text refl x h) refl);
   }
 
@@ -106,7 +108,7 @@ module _ (q : PProgram) (F : List ℕ) (loose : AllByRecursion (IsLoose F) (ids 
   abbrev its_body : Span → List ℕ → PBody
   its_body s header = body (stmt_then (header_put s header) (one (notes_taken n s))) no_handler
 
-  formals-fit : (s : Span) → AllByRecursion (IsFitIn F) (declared false [] (all_names (note_formals n s)))
+  pub formals-fit : (s : Span) → AllByRecursion (IsFitIn F) (declared false [] (all_names (note_formals n s)))
   formals-fit s =
       declared-new F X [] (all_names (note_formals n s))
       (fresh kind_text refl, (fresh subject_text refl, (fresh argument_text refl, (fresh index_text refl, (fresh owner_text refl, (fresh reply_text refl, tt))))))
@@ -147,13 +149,13 @@ module _ (q : PProgram) (F : List ℕ) (loose : AllByRecursion (IsLoose F) (ids 
         same-then F X (Once (is_among names e.name.name.0) e.name) (Once (is_among names e.name.name.0) e.name) (own ++ rest) _ h.0.0 refl
         (same-joined F X own _ rest _ (caller-more F X u caller.0.0 caller.0.1 caller.1 e.name.span (all_names e.formals) (all_front Good own rest h.1)) (entries-same (e.name.name.0 ∷ names) es (all_back Good own rest h.1)))
 
-    pub tasks-same : (here more : List ℕ) → IsGrown F X here more → (ts : List PTask) → AllByRecursion Good (tasks_names here ts) → Same (tasks_names here ts) (tasks_names more (map (task_telling u.added) ts))
-    tasks-same here more g [] h = record { fit = tt; fixed = refl }
-    tasks-same here more g (t ∷ ts) h =
+    pub tasks-same : (here there : List ℕ) → IsGrown F X here there → (ts : List PTask) → AllByRecursion Good (tasks_names here ts) → Same (tasks_names here ts) (tasks_names there (map (task_telling u.added) ts))
+    tasks-same here there g [] h = record { fit = tt; fixed = refl }
+    tasks-same here there g (t ∷ ts) h =
         let own : List Naming = entries_names [] t.entries in
         let rest : List Naming = tasks_names (t.name.name.0 ∷ here) ts in
-        declares-same F X true here more g t.name (own ++ rest) _ h.0
-        (same-joined F X own _ rest _ (entries-same [] t.entries (all_front Good own rest h.1)) (tasks-same (t.name.name.0 ∷ here) (t.name.name.0 ∷ more) (grown-then F X t.name.name.0 here more g) ts (all_back Good own rest h.1)))
+        declares-same F X true here there g t.name (own ++ rest) _ h.0
+        (same-joined F X own _ rest _ (entries-same [] t.entries (all_front Good own rest h.1)) (tasks-same (t.name.name.0 ∷ here) (t.name.name.0 ∷ there) (grown-then F X t.name.name.0 here there g) ts (all_back Good own rest h.1)))
 
     -- ---- bodies
 

@@ -33,7 +33,7 @@ use Rattle.collect_structure.specs.Names.{new_texts, IsOwn, kept_name}
 -- ---- texts
 
 -- a text that passes no test that these pass is none of them
-none-by : (f : List ℕ → Bool) (t : List ℕ) (us : List (List ℕ)) → AllByRecursion (λ u. f u ≡ true) us → f t ≡ false → list_any (bytes_eq t) us ≡ false
+pub none-by : (f : List ℕ → Bool) (t : List ℕ) (us : List (List ℕ)) → AllByRecursion (λ u. f u ≡ true) us → f t ≡ false → list_any (bytes_eq t) us ≡ false
 none-by f t [] i n = refl
 none-by f t (u ∷ us) i n = or_from (bytes_eq t u) (list_any (bytes_eq t) us) (by_test (bytes_eq t u) refl) (none-by f t us i.1 n)
   where
@@ -41,10 +41,10 @@ none-by f t (u ∷ us) i n = or_from (bytes_eq t u) (list_any (bytes_eq t) us) (
     by_test false e = refl
     by_test true e = absurd (true≢false (sym i.0 ∙ ap f (sym ((bytes_eq-Decides t u).0 e)) ∙ n))
 
-abbrev begins_ded : List ℕ → Bool
+abbrev pub begins_ded : List ℕ → Bool
 begins_ded t = starts_with nat_eq t (codes "DED_")
 
-no-ded : (t : List ℕ) → is_reserved t ≡ false → begins_ded t ≡ false
+pub no-ded : (t : List ℕ) → is_reserved t ≡ false → begins_ded t ≡ false
 no-ded t h = by_test (begins_ded t) h
   where
     by_test : (b : Bool) → (b || (has_mark t || bytes_eq t (codes "DED"))) ≡ false → b ≡ false
@@ -76,30 +76,46 @@ module _ (g : Setting) (count : ℕ) where
   abbrev all : List (List ℕ)
   all = normal_names g count
 
-  own-by : (ts : List (List ℕ)) → Begins ts all → (x : ℕ) (t : List ℕ) → slice_get ts x ≡ Some t → list_any (bytes_eq t) new_texts ≡ false → IsOwn all x
-  own-by ts b x t e n =
-      let there : slice_get all x ≡ Some t = ap (λ (l : List (List ℕ)). slice_get l x) b.joined ∙ place-within ts b.more x (slice_get_within ts x t e) ∙ e in
-      subst (λ (o : Option (List ℕ)). IsSomeAnd o (λ s. list_any (bytes_eq s) new_texts ≡ false)) (sym there) n
+  -- What holds of each text that is not reserved, of those of variables and of those of members holds of the text of each such name.
+  module _ (P : List ℕ → Type 0) where
+    text-by : (ts : List (List ℕ)) → Begins ts all → (x : ℕ) (t : List ℕ) → slice_get ts x ≡ Some t → P t → IsSomeAnd (slice_get all x) P
+    text-by ts b x t e n =
+        let there : slice_get all x ≡ Some t = ap (λ (l : List (List ℕ)). slice_get l x) b.joined ∙ place-within ts b.more x (slice_get_within ts x t e) ∙ e in
+        subst (λ (o : Option (List ℕ)). IsSomeAnd o P) (sym there) n
+
+    pub good-text : ((t : List ℕ) → is_reserved t ≡ false → P t) → (x : ℕ) → IsGoodId names x → IsSomeAnd (slice_get all x) P
+    good-text own x good = by_place (slice_get names x) refl good.there
+      where
+        by_place : (o : Option (List ℕ)) → slice_get names x ≡ o → IsSomeAnd o IsIdentifier → IsSomeAnd (slice_get all x) P
+        by_place None e k = absurd k
+        by_place (Some t) e k = text-by names (names-begin g count) x t e (own t (ap (λ (o : Option (List ℕ)). is_reserved (unwrap_or o [])) (sym e) ∙ good.free))
+
+    pub text-of-variable : ((k : ℕ) → P (variable_text k)) → (k : ℕ) → k < count → IsSomeAnd (slice_get all (variable_name g k).0) P
+    text-of-variable own k l =
+        let d : ℕ = count - suc k in
+        let e : suc k + d ≡ count = omega (arith, l) in
+        text-by (normal_names g (suc k)) (subst (λ n. Begins (normal_names g (suc k)) (normal_names g n)) e (more-begin (with_members g) (suc k) d))
+        (variable_name g k).0 (variable_text k) (variable-there g k).0 (own k)
+
+    pub text-of-task : ((t : List ℕ) → is_reserved t ≡ false → P t) → ((t u : List ℕ) → is_reserved t ≡ false → P (t ++ (codes "_DED_" ++ u))) →
+        (info : TaskInfo) → IsNamed g info → IsSomeAnd (slice_get all (task_name g info).0) P
+    text-of-task own member info n = text-by (with_members g) (variables-begin (with_members g) count) (task_name g info).0 (full_text n.text info.member) n.found (by_member info.member)
+      where
+        by_member : (m : Option ℤ) → P (full_text n.text m)
+        by_member None = own n.text n.free
+        by_member (Some i) = subst P (sym (append_assoc n.text (codes "_DED_") (index_text i))) (member n.text (index_text i) n.free)
+
+  abbrev IsOther : List ℕ → Type 0
+  IsOther t = list_any (bytes_eq t) new_texts ≡ false
 
   pub good-own : (x : ℕ) → IsGoodId names x → IsOwn all x
-  good-own x good = by_place (slice_get names x) refl good.there
-    where
-      by_place : (o : Option (List ℕ)) → slice_get names x ≡ o → IsSomeAnd o IsIdentifier → IsOwn all x
-      by_place None e k = absurd k
-      by_place (Some t) e k = own-by names (names-begin g count) x t e (original-text t (ap (λ (o : Option (List ℕ)). is_reserved (unwrap_or o [])) (sym e) ∙ good.free))
+  good-own = good-text IsOther original-text
 
   pub variable-own : (k : ℕ) → k < count → IsOwn all (variable_name g k).0
-  variable-own k l =
-      let d : ℕ = count - suc k in
-      let e : suc k + d ≡ count = omega (arith, l) in
-      own-by (normal_names g (suc k)) (subst (λ n. Begins (normal_names g (suc k)) (normal_names g n)) e (more-begin (with_members g) (suc k) d)) (variable_name g k).0 (variable_text k) (variable-there g k).0 (variable-text k)
+  variable-own = text-of-variable IsOther variable-text
 
   pub task-own : (info : TaskInfo) → IsNamed g info → IsOwn all (task_name g info).0
-  task-own info n = own-by (with_members g) (variables-begin (with_members g) count) (task_name g info).0 (full_text n.text info.member) n.found (by_member info.member)
-    where
-      by_member : (m : Option ℤ) → list_any (bytes_eq (full_text n.text m)) new_texts ≡ false
-      by_member None = original-text n.text n.free
-      by_member (Some i) = ap (λ t. list_any (bytes_eq t) new_texts) (append_assoc n.text (codes "_DED_") (index_text i)) ∙ marked-text n.text (index_text i)
+  task-own = text-of-task IsOther original-text (λ t u f. marked-text t u)
 
 -- ---- kept names
 

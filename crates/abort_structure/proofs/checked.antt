@@ -1,0 +1,13 @@
+pub mod Names
+pub mod Scopes
+pub mod Stays
+pub mod Alike
+pub mod Objects
+pub mod Waits
+pub mod Asked
+pub mod Bodies
+pub mod Before
+pub mod Added
+pub mod Along
+pub mod Recorded
+pub mod Whole

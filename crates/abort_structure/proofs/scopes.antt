@@ -1,0 +1,9 @@
+pub mod Names
+pub mod Owned
+pub mod Fewer
+pub mod Places
+pub mod Main
+pub mod Inner
+pub mod Bodies
+pub mod Told
+pub mod Whole
