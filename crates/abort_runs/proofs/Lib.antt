@@ -1,0 +1,2 @@
+pub mod likeness
+pub mod fits

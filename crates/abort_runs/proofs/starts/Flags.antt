@@ -49,6 +49,7 @@ use Rattle.abort_model.specs.AbortTree.{abort_decl, places_declared, objects_tol
 use Rattle.abort_runs.specs.starts.Texts.{abort_text}
 use Rattle.abort_runs.specs.starts.Laws.{LegalIsRecorder}
 use Rattle.abort_runs.proofs.starts.Naming.{legal_has_names}
+use Rattle.abort_runs.proofs.starts.Once.{legal-names-once}
 
 -- ---- the type, where its declaration stands
 
@@ -191,12 +192,12 @@ module _ (p : PProgram) (once : NamesOnce p.name (abort_text p).decls) where
       (type-among x.teller.added q.name.span last all (first_scope p.name) flags-there (ready-first x.teller.added q.name.span last p.name once.0.0) once.1)
 
 pub legal_is_recorder : LegalIsRecorder
-legal_is_recorder p inputs h once =
+legal_is_recorder p inputs h =
     let known = legal_has_names p inputs h in
     record {
       apart = known.apart;
       of_truth = known.of_truth;
-      of_flags = has-flags p once;
+      of_flags = has-flags p (legal-names-once p h);
       integer = known.integer;
       of_kind = known.of_kind;
       of_integer = known.of_integer;

@@ -1,16 +1,16 @@
 -- The laws, from their parts.
-use Rattle.std.proofs.Common.{◌≡◌, ◌≤◌, ◌==◌, ℕ, Bool, true, false, if◌then◌else◌, List, [], None, refl, subst, sym}
+use Rattle.std.proofs.Common.{◌≡◌, ◌≤◌, ◌==◌, ℕ, Bool, true, false, if◌then◌else◌, List, [], ◌∷◌, None, refl, subst, sym}
 use Rattle.std.specs.Prelude.{ℤ}
 use Rattle.ada_tree.specs.declared.naming.Span.{Span}
-use Rattle.ada_tree.specs.PlainStmt.{PStmts, no_stmt, stmt_then, PBody, PHandlers, no_handler, handler_then, handler}
+use Rattle.ada_tree.specs.PlainStmt.{PStmt, PStmts, no_stmt, stmt_then, PBody, PHandlers, no_handler, handler_then, handler}
 use Rattle.ada_value.specs.Variables.{Variables}
-use Rattle.task_model.specs.Frames.{OwnBody, Around, PFrame, control, settled}
+use Rattle.task_model.specs.Frames.{OwnBody, Around, Block, PFrame, control, settled}
 use Rattle.task_model.specs.Steps.{block_stmts, block_handlers}
 use Rattle.task_laws.specs.translation.Scopes.{AgreeOnTypes}
 use Rattle.task_laws.specs.translation.Translations.{Programs}
 use Rattle.task_laws.specs.translation.OldTexts.{Asked, only_names, OldBody, old_body, old_no_handler, old_handler}
 use Rattle.task_laws.specs.translation.Images.{ImageHandlers}
-use Rattle.task_laws.specs.translation.Controls.{task_in, Alike, are_around}
+use Rattle.task_laws.specs.translation.Controls.{frame, task_in, Alike, are_around}
 use Rattle.task_laws.specs.translation.Floors.{IsTranslation}
 use Rattle.task_laws.proofs.translation.Locals.{step-in-loops, raises-alike, of_settle}
 use Rattle.normal_model.specs.Walk.{after_stmts, after_body, rewritten, inside_handlers}
@@ -52,6 +52,16 @@ own-settled : (hs : PHandlers) (l : PStmts) (V : Variables) → settled (control
 own-settled hs no_stmt V = refl
 own-settled hs (stmt_then s l) V = refl
 
+-- where a block's statements are over the task goes on outside of it, with the same variables
+block-vars : (l : PStmts) (hs : PHandlers) (y : PStmt) (r : PStmts) (q : Around) (o : List PFrame) (V : Variables) → (settled (control l (Block hs) (frame (stmt_then y r) q ∷ o) V)).vars ≡ V
+block-vars no_stmt hs y r q o V = refl
+block-vars (stmt_then s l) hs y r q o V = refl
+
+blocks-vars : (l : PStmts) (hs hs' : PHandlers) (y : PStmt) (r : PStmts) (q : Around) (o : List PFrame) (V : Variables) →
+    (settled (control l (Block hs) (frame no_stmt (Block hs') ∷ frame (stmt_then y r) q ∷ o) V)).vars ≡ V
+blocks-vars no_stmt hs hs' y r q o V = refl
+blocks-vars (stmt_then s l) hs hs' y r q o V = refl
+
 -- a row on a floor where no accept body is open, and its image once frames that are over are left
 begins : (a : Asked) (x : AbortTeller) (last : ℕ) (new : AreNamesAdded a.programs x.teller.added) (types : AgreeOnTypes a.programs) (n : ℕ) (input : List ℤ) (hs : PHandlers) (l l' : PStmts) (p' : Around) (o' : List PFrame)
     (V V' : Variables) → Telling a x 0 last l l' → CollectFloor (telling_rows a x 0 last) x.teller no_floor (OwnBody hs None) [] V p' o' V' →
@@ -83,6 +93,7 @@ module _ (b : Programs) (x : AbortTeller) (last : ℕ) (new : AreNamesAdded b x.
       record {
         reached = _;
         reach = reaches_here _;
+        same = refl;
         alike = subst (λ c. Alike (into_aborting (only_names b) x last []) (task_in b.original n input [] (control l (OwnBody hs None) [] V)) (task_in b.made n input [] c))
             (own-settled (made-handlers l hs) (made-stmts l) V')
             (begins (only_names b) x last new types n input hs l (made-stmts l) _ _ V V' (rows (only_names b) x 0 last h 0 (grows_stmts x no_stmt 0) up)
@@ -93,6 +104,7 @@ module _ (b : Programs) (x : AbortTeller) (last : ℕ) (new : AreNamesAdded b x.
   task-starts its to (old_body l hs h old_no_handler) task = record {
     reached = _;
     reach = reaches_by _ _ refl refl (reaches_here _);
+    same = block-vars (made-stmts l) _ _ _ _ _ V';
     alike = begins (only_names b) x last new types n input no_handler l (made-stmts l) _ _ V V' (rows (only_names b) x 0 last h 0 (grows_stmts x no_stmt 0) to) (plain_body s V V' task ext there);
   }
   task-starts its to (old_body l hs h (old_handler ws l1 s1 rest h1 k1)) task =
@@ -102,6 +114,7 @@ module _ (b : Programs) (x : AbortTeller) (last : ℕ) (new : AreNamesAdded b x.
       record {
         reached = _;
         reach = reaches_by _ _ refl refl (reaches_by _ _ refl refl (reaches_here _));
+        same = blocks-vars (made-stmts l) _ _ _ _ _ _ V';
         alike = begins (only_names b) x last new types n input (handler_then (handler ws l1 s1) rest) l (made-stmts l) _ _ V V' (rows (only_names b) x 0 last h 0 (grows_stmts x no_stmt 0) up)
             (handled_body s _ _ _ _ V V' task im ext there);
       }

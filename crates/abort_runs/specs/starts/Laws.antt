@@ -9,11 +9,10 @@ use Rattle.ada_value.specs.Values.{limits_of, limits_of_kind, limits_named, inte
 use Rattle.syn_event.specs.declared.numbering.TaskInfo.{TaskInfo}
 use Rattle.syn_event.specs.Numbering.{task_named}
 use Rattle.task_model.specs.Setting.{entry_of}
-use Rattle.legal_programs.specs.rewritten_types.Rewriting.{NamesOnce}
 use Rattle.normal_laws.specs.existence.Laws.{IsLegalOriginal}
 use Rattle.table_law.specs.Controllers.{AreApart}
 use Rattle.abort_runs.specs.recorder.Recorders.{Recorder, names_of, tasks_of, last_of, variable_names, IsRecorder}
-use Rattle.abort_runs.specs.starts.Texts.{abort_text, recorder_of, note_number}
+use Rattle.abort_runs.specs.starts.Texts.{recorder_of, note_number}
 
 -- What `IsRecorder` asks of names: the recorder's variables and its loop parameter have names of their own, which are not FALSE and TRUE; and BOOLEAN and
 -- INTEGER mean the predefined types; INTEGER has the numbers of the tasks; NOTE is the recorder's entry of this
@@ -32,7 +31,6 @@ pub record HasNames (k : Recorder) (note : ℕ) : Type 0 where
 abbrev pub LegalHasNames : Type 0
 LegalHasNames = (p : PProgram) (inputs : List (List ℤ)) → IsLegalOriginal p → HasNames (recorder_of p inputs) (note_number p)
 
--- So, where the text declares each name of main once, the recorder is as asked.
+-- So the recorder is as asked.
 abbrev pub LegalIsRecorder : Type 0
-LegalIsRecorder =
-    (p : PProgram) (inputs : List (List ℤ)) → IsLegalOriginal p → NamesOnce p.name (abort_text p).decls → IsRecorder (recorder_of p inputs) (note_number p)
+LegalIsRecorder = (p : PProgram) (inputs : List (List ℤ)) → IsLegalOriginal p → IsRecorder (recorder_of p inputs) (note_number p)

@@ -10,7 +10,7 @@ use Rattle.task_model.specs.Frames.{Endless, Around, Block, Loop, PFrame, Contro
 use Rattle.task_model.specs.Tasks.{Task, rest_of, vars_of}
 use Rattle.task_model.specs.TaskOps.{task_ops}
 use Rattle.task_model.specs.Stands.{can_step, offer_of}
-use Rattle.task_model.specs.Rendezvous.{accepted, finished, resumed, call_failed, took_else, took_delay, pending_of, finals_of, copies_of}
+use Rattle.task_model.specs.Rendezvous.{accepted, finished, resumed, call_failed, took_else, took_delay, pending_of, finals_of}
 use Rattle.task_laws.specs.statements.Blocks.{HasLeftBlocks}
 use Rattle.task_laws.specs.translation.OldTexts.{only_names, OldStmt}
 use Rattle.task_laws.specs.translation.Controls.{task_in, Alike, Under, frame}
@@ -31,7 +31,7 @@ use Rattle.abort_runs.specs.recorder.Telling.{Tells}
 use Rattle.abort_runs.specs.translation.Rows.{Telling}
 use Rattle.abort_runs.specs.translation.Floors.{OpenPlace, innermost, ends_service, HasPlaces, KeepCallers}
 use Rattle.abort_runs.specs.telling.Texts.{Texts, form, text, teller, unit_translation, program_of}
-use Rattle.abort_runs.specs.telling.Forms.{Form}
+use Rattle.abort_runs.specs.telling.Forms.{ComesBack, Form}
 
 -- an exception is pending at the end of the accept body: it is raised at the caller, and any is caught there
 abbrev pub pends : Task → Bool
@@ -146,7 +146,7 @@ module _ {x : Texts} (f : Form x) where
     pub offers : Offers κ (offer_of σ)
     pub callers : callers_in κ.control ≡ callers_in σ.control
     pub over : HandOverAlike f.plainly t σ κ
-    pub returned : (m j : Task) → HandBackAlike f.plainly m j → (copies_of σ (finals_of m)).stopped ≡ None → ComesTo (IsOwing t (Returned m) σ) (resumed j κ)
+    pub returned : (m j : Task) → HandBackAlike f.plainly m j → ComesBack σ m → ComesTo (IsOwing t (Returned m) σ) (resumed j κ)
     pub took_else : (e : ℕ) (i : ℤ) → calls_in is_conditional e i (offer_of σ) ≡ true → ComesTo (IsOwing t TookOther σ) (took_else κ)
     pub expired : (e : ℕ) (i : ℤ) → calls_in is_timed e i (offer_of σ) ≡ true → ComesTo (IsOwing t TookOther σ) (took_delay 1 κ)
     pub failed : ComesTo (IsOwing t Failed σ) (call_failed κ)

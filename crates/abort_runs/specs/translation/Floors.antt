@@ -20,6 +20,7 @@ use Rattle.normal_laws.specs.runs.floors.Preludes.{IsCell}
 use Rattle.normal_laws.specs.runs.floors.NormalFloors.{AreOpen, no_floor}
 use Rattle.replay_model.specs.Serving.{raise_again, whatever}
 use Rattle.collect_runs.specs.translation.Floors.{IsVariableOf, caller_parameter, CollectFloor, AtTelling}
+use Rattle.collect_runs.specs.telling.Texts.{IsInteger}
 use Rattle.abort_model.specs.AbortTeller.{AbortTeller}
 use Rattle.abort_model.specs.Noting.{over}
 use Rattle.abort_model.specs.Serving.{is_not_refused}
@@ -69,14 +70,15 @@ pub data IsBranch : PAlts → ℕ → ℕ → Span → PStmts → Type 0 where
   later_branch : (alt : PAlt) (rest : PAlts) (i j : ℕ) (s : Span) (l : PStmts) → IsBranch rest (i + 1) j s l → IsBranch (alt_then alt rest) i j s l
 
 -- What stands behind the image of an accept at the place of number n: in its block, the condition of the loop's exit, and behind the loop, where the last
--- statements are what the task goes on with. An accept statement tells first that it is over; of a wait the branch of the alternative does.
+-- statements are what the task goes on with. An accept statement tells first that it is over; of a wait the branch of the alternative does, whose number
+-- is one of INTEGER.
 pub data Behind (x : AbortTeller) (s : Span) (n : ℕ) : PStmts → PExpr → PStmts → PStmts → Type 0 where
   behind_accept : (r : PStmts) → Behind x s n no_stmt (is_not_refused x s n) (stmt_then (over x s n) r) r
-  behind_wait : (alts : PAlts) (otherwise : PMaybe) (j : ℕ) (z : Span) (l r : PStmts) → IsBranch alts 1 j z l →
+  behind_wait : (alts : PAlts) (otherwise : PMaybe) (j : ℕ) (z : Span) (l r : PStmts) → IsInteger j → IsBranch alts 1 j z l →
       Behind x s n (one (part_unless_refused x z n j)) (is_taken x s) (stmt_then (SIf (branches x s n alts otherwise 1) absent s) r) (in_front l r)
 
 -- An accept that a task and its image have opened, at this place: where both stand below it, the row behind it and its image, the formals, and these as
--- variables; of the image also the caller's number as a variable, and what stands around.
+-- variables; of the image also the caller's number as a variable, and what stands around. The caller is told by a number of INTEGER.
 pub record OpenAccept (z : Translation) (x : AbortTeller) (p : OpenPlace) : Type 0 where
   pub place : Around
   pub place' : Around
@@ -98,6 +100,7 @@ pub record OpenAccept (z : Translation) (x : AbortTeller) (p : OpenPlace) : Type
   pub test : PExpr
   pub turn : PStmts
   pub after : PStmts
+  pub caller_fits : IsInteger p.caller
   pub behind : Behind x span p.place inner test after row'
 
 module _ {z : Translation} {x : AbortTeller} {p : OpenPlace} where

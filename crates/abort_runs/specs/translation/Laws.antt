@@ -1,5 +1,5 @@
 -- What holds of a task of a normal form and of its image in the collecting text of a program with abort statements between synchronizing statements.
-use Rattle.std.specs.Prelude.{ℕ, ℤ, ◌≤◌, ◌==◌, if◌then◌else◌, List, [], None}
+use Rattle.std.specs.Prelude.{◌≡◌, ℕ, ℤ, ◌≤◌, ◌==◌, if◌then◌else◌, List, [], None}
 use Rattle.ada_tree.specs.declared.naming.Span.{Span}
 use Rattle.ada_tree.specs.PlainStmt.{PBody}
 use Rattle.ada_value.specs.declared.values.Raised.{Raised}
@@ -48,10 +48,12 @@ AbortKeepsVariables =
     (b : Programs) (x : AbortTeller) (last : ℕ) (ps : List OpenPlace) → AreNamesAdded b x.teller.added → (σ κ : Task) → AreAround (into_aborting (only_names b) x last ps) σ κ →
     HasVariables x.teller.added (vars_of κ)
 
--- The image of a task that starts comes, by finitely many local steps that write nothing, to where it is alike, with no accept body open.
+-- The image of a task that starts comes, by finitely many local steps that write nothing and change no variable, to where it is alike, with no accept body
+-- open.
 pub record StartAlike (b : Programs) (x : AbortTeller) (last : ℕ) (σ κ : Task) : Type 0 where
   pub reached : Task
   pub reach : Reaches κ reached
+  pub same : vars_of reached ≡ vars_of κ
   pub alike : Alike (into_aborting (only_names b) x last []) σ reached
 
 -- the body of the unit of a collecting text: main tells nothing of its end

@@ -1,0 +1,15 @@
+pub mod Near
+pub mod Frames
+pub mod Steps
+pub mod Meetings
+pub mod Chains
+pub mod Going
+pub mod Settling
+pub mod Values
+pub mod Preludes
+pub mod Callees
+pub mod Copying
+pub mod Calling
+pub mod Selecting
+pub mod Rows
+pub mod Waiting

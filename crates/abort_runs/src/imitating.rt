@@ -1,0 +1,1 @@
+//! The tasks of a collecting text with abort statements do what the law of collecting asks.
