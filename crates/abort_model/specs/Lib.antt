@@ -10,4 +10,5 @@ pub mod Recording
 pub mod AbortTree
 pub mod AbortNumbers
 pub mod Promised
+pub mod Collecting
 pub mod examples

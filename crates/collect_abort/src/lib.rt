@@ -1,16 +1,24 @@
-//! Programs with abort statements: which they are, for their collecting texts.
-#![tactic(auto)]
+//! Programs with abort statements: which they are, and their collecting texts. Module `recorder` has the task that records and aborts, `units` all declarations in their order.
+#![tactic(auto, using(ada_tree::proofs::Rows::rows))]
 
-ghost use Rattle.std.specs.Prelude.{◌≡◌};
-ghost use Rattle.ada_tree.specs.PlainProgram.{plain_program};
-ghost use Rattle.abort_model.specs.Promised.{has_abort};
+mod aborts;
+mod bodies;
+mod calls;
+mod choosing;
+mod counting;
+mod finder;
+mod kinds;
+mod names;
+mod noting;
+mod program;
+mod recorder;
+mod rewriting;
+mod services;
+mod teller;
+mod text;
+mod units;
+mod waits;
 
-use ada_tree::Program;
-use collect_xform::first_abort;
-
-/// Whether an abort statement stands in a program, also in the body of a task type without objects. It takes no memory, and time linear in the program.
-pub fn has_abort(p: &Program) -> bool
-    ensures { result ≡ has_abort (plain_program p.now) }
-{
-    first_abort(p).is_some()
-}
+pub use aborts::has_abort;
+pub use choosing::collecting;
+pub use program::collect;

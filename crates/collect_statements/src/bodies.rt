@@ -48,8 +48,8 @@ fn with_handlers(alloc: Global, place: &mut Body, s: Span) -> Result<Vec<Stmt>, 
     }
 }
 
-// A body whose statements are rewritten: an exception ends them and no more, and behind them the task tells that it is at its end.
-fn tell_at_end(alloc: Global, x: &Reporter, place: &mut Body, s: Span) -> Result<(), Memory>
+/// A body whose statements are rewritten: an exception ends them and no more, and behind them the task tells that it is at its end.
+pub fn tell_at_end(alloc: Global, x: &Reporter, place: &mut Body, s: Span) -> Result<(), Memory>
     ensures { OnOk result (plain_body place.new ≡ telling_at_end (teller_of x.now) s (plain_body place.old)) }
 {
     let rows = with_handlers(alloc, place, s);

@@ -34,7 +34,7 @@ pub fn task_of(numbers: &TaskNames, name: NameId) -> u32
 }
 
 /// The entry of that name that a task has; 0 where it has none.
-pub(crate) fn entry_of(numbers: &TaskNames, task: u32, name: NameId) -> u32
+pub fn entry_of(numbers: &TaskNames, task: u32, name: NameId) -> u32
     ensures { result ≡ entry_of numbers.now task name }
 {
     match numbers.entry_named(task, name) {
@@ -109,7 +109,7 @@ fn number_by(alloc: Global, mark: Option<NameId>, index: &Expr, s: Span) -> Resu
 }
 
 /// The member of an entry as a number.
-pub(crate) fn member_number(
+pub fn member_number(
     alloc: Global,
     x: &Reporter,
     entry: u32,
@@ -132,7 +132,7 @@ fn member_called(alloc: Global, x: &Reporter, call: &Call, s: Span) -> Result<Ex
 }
 
 /// A note of the task about the member that it calls, and its owner.
-pub(crate) fn call_note(
+pub fn call_note(
     alloc: Global,
     x: &Reporter,
     kind: u32,
@@ -252,12 +252,7 @@ fn args_with(alloc: Global, x: &Reporter, call: &Call, s: Span) -> Result<Args, 
 }
 
 /// The call with the task's number as its first actual.
-pub(crate) fn call_telling(
-    alloc: Global,
-    x: &Reporter,
-    call: &Call,
-    s: Span,
-) -> Result<Call, Memory>
+pub fn call_telling(alloc: Global, x: &Reporter, call: &Call, s: Span) -> Result<Call, Memory>
     ensures { IfOk result (λ made. plain_call made ≡ call_telling (teller_of x.now) s (plain_call call.now)) }
 {
     match both(call.task.copy(alloc), args_with(alloc, x, call, s)) {

@@ -11,7 +11,10 @@ mod rewriting;
 mod serving;
 mod waiting;
 
-pub use bodies::{collect_main, collect_task};
-pub use calling::task_of;
+pub use bodies::{collect_main, collect_task, tell_at_end};
+pub use calling::{call_note, call_telling, entry_of, member_number, task_of};
+pub use noting::{note, own_note};
+pub use parts::{fails_late, or_null, part_is, raising};
 pub use reporter::{Reporter, Tables};
-pub use serving::{formals_telling, one_word};
+pub use serving::{begin_note, formals_telling, one_word};
+pub use waiting::next_delay;

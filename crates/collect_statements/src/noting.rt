@@ -78,7 +78,7 @@ fn note_actuals(
 }
 
 /// A note of a kind about a task, with an entry or a delay alternative, the member of a family, and the owner of the entry.
-pub(crate) fn note(
+pub fn note(
     alloc: Global,
     x: &Reporter,
     kind: u32,
@@ -100,7 +100,7 @@ pub(crate) fn note(
 }
 
 /// A note of the task about itself, with no entry.
-pub(crate) fn own_note(
+pub fn own_note(
     alloc: Global,
     x: &Reporter,
     kind: u32,

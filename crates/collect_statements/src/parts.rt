@@ -29,7 +29,7 @@ const CALL_PART: u32 = 1;
 const OTHER_PART: u32 = 2;
 
 /// `raise;` as a row.
-pub(crate) fn raising(alloc: Global, s: Span) -> Result<Vec<Stmt>, Memory>
+pub fn raising(alloc: Global, s: Span) -> Result<Vec<Stmt>, Memory>
     ensures { IfOk result (λ made. seen made.items ≡ one (raise_again s)) }
 {
     one_stmt(alloc, Ok(reraise_stmt(s)))
@@ -74,16 +74,16 @@ fn call_told(
     )
 }
 
-// The variable tells which part of the call came.
-fn part_is(alloc: Global, x: &Reporter, part: u32, s: Span) -> Result<Vec<Stmt>, Memory>
+/// The variable tells which part of the call came.
+pub fn part_is(alloc: Global, x: &Reporter, part: u32, s: Span) -> Result<Vec<Stmt>, Memory>
     ensures { IfOk result (λ made. seen made.items ≡ part_is (teller_of x.now) s part) }
 {
     let name = word(x.tables.added.part, s);
     one_stmt(alloc, assignment(name, Ok(integer_expr(part, s)), s))
 }
 
-// TASKING_ERROR is raised where the recorder answers that the other part came too late.
-fn fails_late(alloc: Global, x: &Reporter, s: Span) -> Result<Stmt, Memory>
+/// TASKING_ERROR is raised where the recorder answers that the other part came too late.
+pub fn fails_late(alloc: Global, x: &Reporter, s: Span) -> Result<Stmt, Memory>
     ensures { IfOk result (λ made. plain_stmt made ≡ fails_late (teller_of x.now) s) }
 {
     let raising = one_stmt(alloc, Ok(raise_stmt(word(NameId::TASKING_ERROR, s), s)));
@@ -96,8 +96,8 @@ fn fails_late(alloc: Global, x: &Reporter, s: Span) -> Result<Stmt, Memory>
     )
 }
 
-// Where nothing stands, `null;` does.
-fn or_null(stmts: Vec<Stmt>, s: Span) -> Result<Vec<Stmt>, Memory>
+/// Where nothing stands, `null;` does.
+pub fn or_null(stmts: Vec<Stmt>, s: Span) -> Result<Vec<Stmt>, Memory>
     ensures { IfOk result (λ made. seen made.items ≡ or_null s (seen stmts.items)) }
 {
     let mut stmts = stmts;

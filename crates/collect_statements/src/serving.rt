@@ -83,8 +83,8 @@ pub fn formals_telling(
     keep_formals(made, done)
 }
 
-// The note that the caller's call has been accepted.
-fn begin_note(alloc: Global, x: &Reporter, accept: &Accept, s: Span) -> Result<Stmt, Memory>
+/// The note that the caller's call has been accepted.
+pub fn begin_note(alloc: Global, x: &Reporter, accept: &Accept, s: Span) -> Result<Stmt, Memory>
     ensures { IfOk result (λ made. plain_stmt made ≡ begin_note (teller_of x.now) s (head_of (plain_accept accept.now))) }
 {
     let entry = entry_of(x.numbers, x.task, accept.entry.name);

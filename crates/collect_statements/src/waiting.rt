@@ -52,8 +52,8 @@ fn alternative_told(alloc: Global, x: &Reporter, alt: &mut Alt, k: u32) -> Resul
     }
 }
 
-// The number of the next delay alternative; want of memory where there is no such number.
-fn next_delay(alt: &Alt, k: u32) -> Result<u32, Memory>
+/// The number of the next delay alternative; want of memory where there is no such number.
+pub fn next_delay(alt: &Alt, k: u32) -> Result<u32, Memory>
     ensures { IfOk result (λ next. next ≡ next_delay (plain_alt alt.now) k) }
 {
     match &alt.kind {

@@ -1,6 +1,5 @@
 -- A copy of a normal form whose parts became those of the collecting text is that text, and the text of a program is that of its normal form.
-use Rattle.std.proofs.Common.{◌≡◌, ◌⊎◌, ℕ, true, List, map, Option, Some, None, Result, Ok, Err, IfOk, OnOk, refl, sym, ap, ◌∙◌, subst}
-use Rattle.ada_tree.specs.declared.naming.Span.{Span}
+use Rattle.std.proofs.Common.{◌≡◌, ℕ, true, List, map, Result, Ok, Err, IfOk, OnOk, refl, sym, ap, ◌∙◌, subst}
 use Rattle.ada_tree.specs.declared.shortage.Memory.{Memory}
 use Rattle.ada_tree.specs.declared.whole.Program.{Program}
 use Rattle.ada_tree.specs.PlainStmt.{plain_body}
@@ -17,9 +16,7 @@ use Rattle.replay_model.specs.ReplayTree.{normal_setting}
 use Rattle.collect_model.specs.Names.{collect_names, with_added}
 use Rattle.collect_model.specs.Teller.{Teller, teller_in}
 use Rattle.collect_model.specs.CollectStmts.{main_body}
-use Rattle.collect_model.specs.CollectTree.{collect_decls, collect_of, collect_tree}
-use Rattle.collect_model.specs.FirstAbort.{first_abort}
-use Rattle.collect_model.specs.Collected.{collected, unless_abort}
+use Rattle.collect_model.specs.CollectTree.{collect_decls, collect_of}
 use Rattle.collect_statements.specs.declared.reporter.Reporter.{Reporter}
 use Rattle.collect_statements.specs.Looked.{teller_of}
 use Rattle.collect_xform.specs.Looking.{AreTables}
@@ -97,35 +94,3 @@ pub same-text :
     IfOk done (λ text. plain_program text ≡ collect_of (teller_in (main_unit h)) h.program)
 same-text g h (Err e) same step = tt
 same-text g h (Ok text) same step = step ∙ ap (λ s. collect_of (teller_in (main_unit s)) s.program) same
-
--- ---- what is answered
-
--- a text, where no abort statement stands
-pub text-is :
-    (p : PProgram) (types : TypeTable) (numbers : Numbering) (text : PProgram) →
-    None ≡ first_abort p →
-    text ≡ collect_tree p types numbers →
-    collected p types numbers ≡ Ok text
-text-is p types numbers text none made = (λ i. unless_abort (sym none i) (sym made i))
-
--- where one begins, it is told
-pub abort-is :
-    (p : PProgram) (types : TypeTable) (numbers : Numbering) (place : Span) (at : ℕ) →
-    Some place ≡ first_abort p →
-    collected p types numbers ≡ Err at →
-    place.start ≡ at
-abort-is p types numbers place at found told = same place.start at (ap (λ o. unless_abort o (collect_tree p types numbers)) found ∙ told)
-  where
-    same : (m n : ℕ) → (let error : Result PProgram ℕ = Err m in error) ≡ Err n → m ≡ n
-    same m n e = cc
-
--- and where none stands there is none to tell
-pub no-abort :
-    {X : Type 0} (p : PProgram) (types : TypeTable) (numbers : Numbering) (at : ℕ) →
-    None ≡ first_abort p →
-    collected p types numbers ≡ Err at →
-    X
-no-abort p types numbers at none told = absurd (apart (collect_tree p types numbers) at (ap (λ o. unless_abort o (collect_tree p types numbers)) none ∙ told))
-  where
-    apart : (q : PProgram) (n : ℕ) → (let text : Result PProgram ℕ = Ok q in text) ≡ Err n → ⊥
-    apart q n e = cc

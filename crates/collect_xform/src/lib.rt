@@ -4,11 +4,13 @@
 mod aborts;
 mod names;
 mod program;
-mod recorder;
+pub mod recorder;
 mod tables;
 mod text;
-mod units;
+pub mod units;
 
 pub use aborts::first_abort;
+pub use names::add_names;
 pub use program::collect;
 pub use recorder::header_text;
+pub use tables::tables_of;

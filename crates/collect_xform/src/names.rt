@@ -19,7 +19,7 @@ fn intern_all(names: &mut Names, texts: &[&str]) -> Result<(), Memory>
 }
 
 /// Names become those of the collecting text: those that are added go behind them.
-pub(crate) fn add_names(names: &mut Names) -> Result<(), Memory>
+pub fn add_names(names: &mut Names) -> Result<(), Memory>
     ensures { OnOk result (names.new ≡ with_added names.old) }
 {
     intern_all(

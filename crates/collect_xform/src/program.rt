@@ -1,15 +1,13 @@
 // The collecting text of a program.
 
-ghost use Rattle.std.specs.Prelude.{◌≡◌, ◌⊎◌, ℕ, Err, Ok, IfOk, IfErr, IsSome, length, take};
+ghost use Rattle.std.specs.Prelude.{◌≡◌, None, IfOk, IfErr, length, take};
 ghost use Rattle.ada_tree.specs.PlainProgram.{plain_program};
 ghost use Rattle.normal_form.specs.declared.errors.XformError.TheVariants as errors;
 ghost use Rattle.normal_model.specs.NormalTree.{main_unit};
 ghost use Rattle.collect_model.specs.Teller.{teller_in};
 ghost use Rattle.collect_model.specs.FirstAbort.{first_abort};
 ghost use Rattle.collect_model.specs.CollectTree.{collect_of, collect_tree};
-ghost use Rattle.collect_model.specs.Collected.{collected};
 
-use crate::aborts::first_abort;
 use crate::text::collect_text;
 use ada_tree::{Memory, Program, Types};
 use normal_form::{XformError, normal, normal_numbers};
@@ -34,7 +32,7 @@ fn collect_normal(
     }
 }
 
-// The collecting text of a program, with an abort statement or without.
+// The collecting text of a program.
 fn collect_all(
     alloc: Global,
     p: &Program,
@@ -48,23 +46,20 @@ fn collect_all(
     collect_normal(alloc, &q, types, &renumbered)
 }
 
-/// The collecting text of a program with these types and numbers. The errors are an abort statement, of which the first is told, and want of memory.
+/// The collecting text of a program with these types and numbers, in which no abort statement stands. The only error is want of memory.
 pub fn collect(
     alloc: Global,
     p: &Program,
     types: &Types,
     numbers: &Numbers,
 ) -> Result<Program, XformError>
-    ensures text { IfOk result (λ text. collected (plain_program p.now) types.now numbers.now ≡ Ok (plain_program text)) }
+    requires none { first_abort (plain_program p.now) ≡ None }
+    ensures text { IfOk result (λ text. plain_program text ≡ collect_tree (plain_program p.now) types.now numbers.now) }
     ensures names { IfOk result (λ text. take (length p.now.names) text.names ≡ p.now.names) }
-    ensures abort { (at : ℕ) → collected (plain_program p.now) types.now numbers.now ≡ Err at → result ≡ Err (errors.HasAbort at) }
-    ensures cause { IfErr result (λ e. (e ≡ errors.Memory) ⊎ IsSome (first_abort (plain_program p.now))) }
+    ensures cause { IfErr result (λ e. e ≡ errors.Memory) }
 {
-    match first_abort(p) {
-        Some(place) => Err(XformError::HasAbort { at: place.start }),
-        None => match collect_all(alloc, p, types, numbers) {
-            Ok(text) => Ok(text),
-            Err(_) => Err(XformError::Memory),
-        },
+    match collect_all(alloc, p, types, numbers) {
+        Ok(text) => Ok(text),
+        Err(_) => Err(XformError::Memory),
     }
 }

@@ -7,7 +7,10 @@ mod lines;
 mod noting;
 mod recording;
 
-pub(crate) use declaring::recorder_declared;
-pub(crate) use flags::truth;
-pub use lines::header_text;
+pub use declaring::{note_formals, recorder_declared};
+pub use flags::{answered, flag_of, flag_set, flags_declared, truth};
+pub use lines::{
+    call_line, delay_line, header_put, header_text, line_end, one_part, put_words, task_line,
+};
+pub use noting::{on_end, on_other_part, put_branch, put_parts};
 pub(crate) use recording::recorder_body;

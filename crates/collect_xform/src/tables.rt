@@ -11,7 +11,7 @@ use normal_parts::marks_of;
 use std::alloc::Global;
 
 /// The tables of a program, and of its text, whose names these are.
-pub(crate) fn tables_of(alloc: Global, lookups: &Lookups, names: &Names) -> Result<Tables, Memory>
+pub fn tables_of(alloc: Global, lookups: &Lookups, names: &Names) -> Result<Tables, Memory>
     ensures { IfOk result (λ tables. AreTables lookups.now names.now tables) }
 {
     let mut beside = names.copy(alloc)?;

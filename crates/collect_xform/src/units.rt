@@ -7,4 +7,8 @@ mod tasks;
 mod units;
 mod variables;
 
+pub use main_objects::{has_int_io, put_main};
 pub(crate) use program::collect_decls;
+pub use program::put_recorder;
+pub use tasks::tell_task;
+pub use variables::{put_behind_own, put_variables};

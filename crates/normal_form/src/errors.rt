@@ -15,9 +15,6 @@ pub enum XformError {
     /// There was not enough memory.
     #[error("out of memory")]
     Memory,
-    /// An abort statement stands at this place.
-    #[error("an abort statement stands at byte {at}")]
-    HasAbort { at: u32 },
 }
 
 impl From<Memory> for XformError {

@@ -66,7 +66,7 @@ fn put_formals(alloc: Global, n: &AddedNames, s: Span, out: &mut Vec<Formal>) ->
 }
 
 /// The formals of the recorder's entry.
-pub(crate) fn note_formals(alloc: Global, n: &AddedNames, s: Span) -> Result<Vec<Formal>, Memory>
+pub fn note_formals(alloc: Global, n: &AddedNames, s: Span) -> Result<Vec<Formal>, Memory>
     ensures { IfOk result (λ made. map plain_formal made.items ≡ note_formals n.now s) }
 {
     let mut formals = Vec::new(alloc);
@@ -75,7 +75,7 @@ pub(crate) fn note_formals(alloc: Global, n: &AddedNames, s: Span) -> Result<Vec
 }
 
 /// The declaration of the recorder.
-pub(crate) fn recorder_declared(alloc: Global, n: &AddedNames, s: Span) -> Result<Decl, Memory>
+pub fn recorder_declared(alloc: Global, n: &AddedNames, s: Span) -> Result<Decl, Memory>
     ensures { IfOk result (λ made. plain_decl made ≡ recorder_declared n.now s) }
 {
     let note = entry_of(word(n.note, s), Ok(None), note_formals(alloc, n, s), s);

@@ -16,7 +16,7 @@ use std::alloc::Global;
 use tree_rewriting::making::{assignment, component_assignment, component_of, name_expr};
 
 /// TRUE or FALSE.
-pub(crate) fn truth(value: bool, s: Span) -> Expr
+pub fn truth(value: bool, s: Span) -> Expr
     ensures { plain_expr result ≡ truth s value }
 {
     let name = if value { NameId::TRUE } else { NameId::FALSE };
@@ -24,14 +24,14 @@ pub(crate) fn truth(value: bool, s: Span) -> Expr
 }
 
 /// The flag of the task whose number is in a variable.
-pub(crate) fn flag_of(alloc: Global, flags: NameId, task: NameId, s: Span) -> Result<Expr, Memory>
+pub fn flag_of(alloc: Global, flags: NameId, task: NameId, s: Span) -> Result<Expr, Memory>
     ensures { IfOk result (λ made. plain_expr made ≡ flag_of s flags task) }
 {
     component_of(alloc, word(flags, s), Ok(name_expr(task, s)), s)
 }
 
 /// That flag becomes true or false.
-pub(crate) fn flag_set(flags: NameId, task: NameId, value: bool, s: Span) -> Result<Stmt, Memory>
+pub fn flag_set(flags: NameId, task: NameId, value: bool, s: Span) -> Result<Stmt, Memory>
     ensures { IfOk result (λ made. plain_stmt made ≡ flag_set s flags task value) }
 {
     component_assignment(
@@ -43,12 +43,7 @@ pub(crate) fn flag_set(flags: NameId, task: NameId, value: bool, s: Span) -> Res
 }
 
 /// The declaration of flags, all of which are down.
-pub(crate) fn flags_declared(
-    alloc: Global,
-    n: &AddedNames,
-    flags: NameId,
-    s: Span,
-) -> Result<Decl, Memory>
+pub fn flags_declared(alloc: Global, n: &AddedNames, flags: NameId, s: Span) -> Result<Decl, Memory>
     ensures { IfOk result (λ made. plain_decl made ≡ flags_declared n.now s flags) }
 {
     let mark = Subind {
@@ -66,7 +61,7 @@ pub(crate) fn flags_declared(
 }
 
 /// The answer becomes true or false.
-pub(crate) fn answered(n: &AddedNames, value: bool, s: Span) -> Result<Stmt, Memory>
+pub fn answered(n: &AddedNames, value: bool, s: Span) -> Result<Stmt, Memory>
     ensures { IfOk result (λ made. plain_stmt made ≡ answered n.now s value) }
 {
     assignment(word(n.reply, s), Ok(truth(value, s)), s)

@@ -19,8 +19,8 @@ use tree_rewriting::making::{name_expr, one_stmt};
 
 // ---- what is written
 
-// A list of one part of what is written.
-fn one_part(alloc: Global, part: Result<Part, Memory>) -> Result<Vec<Part>, Memory>
+/// A list of one part of what is written.
+pub fn one_part(alloc: Global, part: Result<Part, Memory>) -> Result<Vec<Part>, Memory>
     ensures { IfOk result (λ made. OkWith part (λ x. made.items ≡ x ∷ [])) }
 {
     let mut parts = Vec::new(alloc);
@@ -36,8 +36,8 @@ fn words_part(alloc: Global, text: &str, s: Span) -> Result<Part, Memory>
     Ok(Part::Words { text, span: s })
 }
 
-// `PUT("..");`
-fn put_words(alloc: Global, text: &str, s: Span) -> Result<Stmt, Memory>
+/// `PUT("..");`
+pub fn put_words(alloc: Global, text: &str, s: Span) -> Result<Stmt, Memory>
     ensures { IfOk result (λ made. plain_stmt made ≡ put_words s text.now) }
 {
     put_of(one_part(alloc, words_part(alloc, text, s)), s)
@@ -50,8 +50,8 @@ fn put_number(alloc: Global, name: NameId, s: Span) -> Result<Stmt, Memory>
     put_of(one_part(alloc, Ok(Part::Value(name_expr(name, s)))), s)
 }
 
-// `NEW_LINE;`
-fn line_end(s: Span) -> Stmt
+/// `NEW_LINE;`
+pub fn line_end(s: Span) -> Stmt
     ensures { plain_stmt result ≡ SNewLine s }
 {
     Stmt {
@@ -76,12 +76,7 @@ fn number_before(
 }
 
 /// The line of an event that names its task alone.
-pub(crate) fn task_line(
-    alloc: Global,
-    n: &AddedNames,
-    letter: &str,
-    s: Span,
-) -> Result<Vec<Stmt>, Memory>
+pub fn task_line(alloc: Global, n: &AddedNames, letter: &str, s: Span) -> Result<Vec<Stmt>, Memory>
     ensures { IfOk result (λ made. seen made.items ≡ task_line n.now s letter.now) }
 {
     let end = one_stmt(alloc, Ok(line_end(s)));
@@ -90,12 +85,7 @@ pub(crate) fn task_line(
 }
 
 /// The line of an event that names its task and a delay alternative.
-pub(crate) fn delay_line(
-    alloc: Global,
-    n: &AddedNames,
-    letter: &str,
-    s: Span,
-) -> Result<Vec<Stmt>, Memory>
+pub fn delay_line(alloc: Global, n: &AddedNames, letter: &str, s: Span) -> Result<Vec<Stmt>, Memory>
     ensures { IfOk result (λ made. seen made.items ≡ delay_line n.now s letter.now) }
 {
     let end = one_stmt(alloc, Ok(line_end(s)));
@@ -105,12 +95,7 @@ pub(crate) fn delay_line(
 }
 
 /// The line of an event that names a caller, an entry and a member of it.
-pub(crate) fn call_line(
-    alloc: Global,
-    n: &AddedNames,
-    letter: &str,
-    s: Span,
-) -> Result<Vec<Stmt>, Memory>
+pub fn call_line(alloc: Global, n: &AddedNames, letter: &str, s: Span) -> Result<Vec<Stmt>, Memory>
     ensures { IfOk result (λ made. seen made.items ≡ call_line n.now s letter.now) }
 {
     let end = one_stmt(alloc, Ok(line_end(s)));
@@ -164,7 +149,7 @@ pub fn header_text(alloc: Global, names: &Names, numbers: &Numbers) -> Result<St
 }
 
 /// `PUT_LINE("..");`
-pub(crate) fn header_put(alloc: Global, header: &str, s: Span) -> Result<Stmt, Memory>
+pub fn header_put(alloc: Global, header: &str, s: Span) -> Result<Stmt, Memory>
     ensures { IfOk result (λ made. plain_stmt made ≡ header_put s header.now) }
 {
     put_line_of(one_part(alloc, words_part(alloc, header, s)), s)

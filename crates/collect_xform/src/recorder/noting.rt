@@ -36,8 +36,13 @@ fn on_begun(alloc: Global, n: &AddedNames, s: Span) -> Result<Vec<Stmt>, Memory>
     before(alloc, flag_set(n.met, n.subject, true, s), line)
 }
 
-// A task has taken the other part of its call: the line of this letter, or where the owner of the entry is at its end that of a failed call, and the answer.
-fn on_other_part(alloc: Global, n: &AddedNames, letter: &str, s: Span) -> Result<Vec<Stmt>, Memory>
+/// A task has taken the other part of its call: the line of this letter, or where the owner of the entry is at its end that of a failed call, and the answer.
+pub fn on_other_part(
+    alloc: Global,
+    n: &AddedNames,
+    letter: &str,
+    s: Span,
+) -> Result<Vec<Stmt>, Memory>
     ensures { IfOk result (λ made. seen made.items ≡ on_other_part n.now s letter.now) }
 {
     let answer = one_stmt(alloc, answered(n, true, s));
@@ -57,8 +62,8 @@ fn on_failed(alloc: Global, n: &AddedNames, s: Span) -> Result<Vec<Stmt>, Memory
     one_stmt(alloc, if_one(alloc, test, line, Ok(None), s))
 }
 
-// A task is at its end.
-fn on_end(alloc: Global, n: &AddedNames, s: Span) -> Result<Vec<Stmt>, Memory>
+/// A task is at its end.
+pub fn on_end(alloc: Global, n: &AddedNames, s: Span) -> Result<Vec<Stmt>, Memory>
     ensures { IfOk result (λ made. seen made.items ≡ on_end n.now s) }
 {
     let line = task_line(alloc, n, "X", s);
@@ -67,8 +72,8 @@ fn on_end(alloc: Global, n: &AddedNames, s: Span) -> Result<Vec<Stmt>, Memory>
 
 // ---- the branches
 
-// The branch of a kind of notes goes behind others.
-fn put_branch(
+/// The branch of a kind of notes goes behind others.
+pub fn put_branch(
     alloc: Global,
     kind: u32,
     stmts: Result<Vec<Stmt>, Memory>,
@@ -89,8 +94,13 @@ fn put_first(alloc: Global, n: &AddedNames, s: Span, out: &mut Vec<CaseArm>) -> 
     put_branch(alloc, AT_FINISH, task_line(alloc, n, "E", s), s, out)
 }
 
-// The branches of other parts that were taken, of waits and of calls.
-fn put_parts(alloc: Global, n: &AddedNames, s: Span, out: &mut Vec<CaseArm>) -> Result<(), Memory>
+/// The branches of other parts that were taken, of waits and of calls.
+pub fn put_parts(
+    alloc: Global,
+    n: &AddedNames,
+    s: Span,
+    out: &mut Vec<CaseArm>,
+) -> Result<(), Memory>
     ensures { OnOk result (map plain_case_arm out.new.items ≡ map plain_case_arm out.old.items ++ part_arms n.now s) }
 {
     put_branch(alloc, HAS_ELSE, task_line(alloc, n, "S", s), s, out)?;

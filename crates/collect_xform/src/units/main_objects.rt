@@ -27,8 +27,8 @@ fn is_int_io(decl: &Decl) -> bool
     }
 }
 
-// Whether one of the declarations is an instance of INTEGER_IO.
-fn has_int_io(decls: &[Decl]) -> bool
+/// Whether one of the declarations is an instance of INTEGER_IO.
+pub fn has_int_io(decls: &[Decl]) -> bool
     ensures { result ≡ list_any (λ d. is_int_io (plain_decl d)) decls.now }
 {
     decls.iter().any(|decl| is_int_io(decl))
@@ -66,8 +66,8 @@ fn flags_type(n: &AddedNames, s: Span, last: u32) -> Result<Decl, Memory>
     )
 }
 
-// What main declares more goes behind others.
-fn put_main(
+/// What main declares more goes behind others.
+pub fn put_main(
     alloc: Global,
     n: &AddedNames,
     s: Span,

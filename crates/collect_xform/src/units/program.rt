@@ -30,8 +30,13 @@ fn put_rewritten(
     move_decls(out, decls)
 }
 
-// The recorder is declared behind others.
-fn put_recorder(alloc: Global, x: &Reporter, q: &Program, out: &mut Vec<Decl>) -> Result<(), Memory>
+/// The recorder is declared behind others.
+pub fn put_recorder(
+    alloc: Global,
+    x: &Reporter,
+    q: &Program,
+    out: &mut Vec<Decl>,
+) -> Result<(), Memory>
     ensures { OnOk result (map plain_decl out.new.items ≡ map plain_decl out.old.items ++ recorder_told (teller_of x.now) (plain_program q.now) ∷ []) }
 {
     push_decl(out, recorder_declared(alloc, &x.tables.added, q.name.span))

@@ -29,7 +29,7 @@ fn tell_entries(alloc: Global, n: &AddedNames, entries: &mut Vec<EntryDecl>) -> 
 }
 
 /// A task becomes that of the collecting text.
-pub(crate) fn tell_task(alloc: Global, n: &AddedNames, unit: &mut TaskUnit) -> Result<(), Memory>
+pub fn tell_task(alloc: Global, n: &AddedNames, unit: &mut TaskUnit) -> Result<(), Memory>
     ensures { OnOk result (plain_task unit.new ≡ task_telling n.now (plain_task unit.old)) }
 {
     tell_entries(alloc, n, &mut unit.entries)

@@ -46,7 +46,7 @@ fn part_declared(alloc: Global, n: &AddedNames, s: Span) -> Result<Decl, Memory>
 }
 
 /// The variables of a unit are declared behind others.
-pub(crate) fn put_variables(
+pub fn put_variables(
     alloc: Global,
     n: &AddedNames,
     s: Span,
@@ -71,7 +71,7 @@ fn insert_decls(decls: &mut Vec<Decl>, place: usize, more: &mut Vec<Decl>) -> Re
 }
 
 /// Declarations, of which their list keeps none, go behind a unit's own ones, in front of the variables of the normal form.
-pub(crate) fn put_behind_own(
+pub fn put_behind_own(
     names: &Names,
     more: &mut Vec<Decl>,
     decls: &mut Vec<Decl>,
