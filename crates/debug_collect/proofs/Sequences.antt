@@ -20,7 +20,8 @@ use Rattle.normal_laws.specs.runs.forms.Normalisable.{numbers_of}
 use Rattle.normal_laws.specs.existence.Laws.{IsLegalOriginal}
 use Rattle.replay_runs.proofs.controls.Offers.{as-many-numbers}
 use Rattle.collect_runs.specs.originals.Laws.{CollectsProgram}
-use Rattle.collect_runs.specs.starts.Texts.{text_for, recorder_number}
+use Rattle.collect_runs.specs.starts.Texts.{recorder_number}
+use Rattle.abort_model.specs.Collecting.{collecting_tree}
 use Rattle.collect_runs.specs.files.Files.{file_of_lines}
 use Rattle.collect_runs.specs.files.Sequences.{IsRecordedIn}
 use Rattle.collect_runs.specs.files.Laws.{NoneApplies}
@@ -76,7 +77,7 @@ module _ (p : PProgram) (legal : IsLegalOriginal p) (inputs : List (List ℤ)) w
 
 -- ---- the picked run
 
-module _ (p : PProgram) (legal : IsLegalOriginal p) (collects : CollectsProgram p (text_for p)) {C : Type 0} (word : C → ℕ) (next : C → C) (inputs : List (List ℤ)) (choices : C) (turns : ℕ) where
+module _ (p : PProgram) (legal : IsLegalOriginal p) (collects : CollectsProgram p (collecting_tree p (types_in p) (numbers_of p))) {C : Type 0} (word : C → ℕ) (next : C → C) (inputs : List (List ℤ)) (choices : C) (turns : ℕ) where
   -- the picked run of the text for these types and numbers records events
   abbrev Records : TypeTable → Numbering → Type 0
   Records types numbers =
@@ -84,7 +85,7 @@ module _ (p : PProgram) (legal : IsLegalOriginal p) (collects : CollectsProgram 
 
   by_own : Records (types_in p) (numbers_of p)
   by_own =
-      let q : PProgram = text_for p in
+      let q : PProgram = collecting_tree p (types_in p) (numbers_of p) in
       let run = picked_is_run word next (record { program = q; types = types_in q; inputs = inputs }) (numbers_of q) turns choices in
       let r = machines_are_recorded p q legal collects inputs inputs (λ t l. refl) run.actions run.applies in (
         r.0,

@@ -1,5 +1,5 @@
 -- The sequence that a run of a collecting text records, as a file (this project's rules).
-use Rattle.std.specs.Prelude.{◌≡◌, ◌≤◌, ℕ, ℤ, ◌+◌, Bool, true, false, All, List, length, drop, None, ◌⊎◌}
+use Rattle.std.specs.Prelude.{◌≡◌, ◌≤◌, ℕ, ℤ, ◌+◌, Bool, true, false, All, List, length, drop}
 use Rattle.event_machine.specs.declared.Event.{Event}
 use Rattle.ada_tree.specs.PlainProgram.{PProgram}
 use Rattle.ada_tree.specs.TypeTable.{TypeTable}
@@ -15,15 +15,13 @@ use Rattle.task_model.specs.picked_runs.Outputs.{output_of}
 use Rattle.task_model.specs.picked_runs.Picked.{Position, picked, run_end}
 use Rattle.normal_laws.specs.runs.runs.Laws.{opened}
 use Rattle.replay_model.specs.ReplayTree.{last_task}
-use Rattle.collect_model.specs.CollectTree.{collect_tree}
-use Rattle.collect_model.specs.FirstAbort.{first_abort}
+use Rattle.abort_model.specs.Collecting.{collecting_tree}
 use Rattle.collect_runs.specs.files.Files.{file_of_lines}
 use Rattle.collect_runs.specs.files.Sequences.{IsShown, IsShownQuiet}
 use Rattle.task_machine.specs.Views.{IsFeasible}
 use Rattle.debug_run.specs.RunOutcomes.{run_status}
 use Rattle.debug_run.specs.texts.OutputText.{finished_lines}
 use Rattle.debug_outcome.specs.Outcomes.{Outcome, writes}
-use Rattle.debug_collect.specs.CollectOutcomes.{IsAborting}
 
 -- ---- the file
 
@@ -53,7 +51,7 @@ opening text inputs = opening_of (record { program = text; types = types_in text
 
 -- where the run of the collecting text of a program with these types and numbers stands that these choices pick, of at most so many turns; its tasks read what those of the program read
 abbrev pub recording : {C : Type 0} → (C → ℕ) → (C → C) → PProgram → TypeTable → Numbering → List (List ℤ) → C → ℕ → Position C
-recording word next p types numbers inputs choices turns = picked word next turns (opening (collect_tree p types numbers) inputs) choices
+recording word next p types numbers inputs choices turns = picked word next turns (opening (collecting_tree p types numbers) inputs) choices
 
 -- the file of a run that stands here as its turns are spent
 abbrev pub file_at : {C : Type 0} → List (List ℕ) → Numbering → Position C → List ℕ
@@ -73,13 +71,8 @@ pub record AreRecorded {C : Type 0} (setup : ProgramWithInputs) (numbers : Numbe
   pub file : file_at setup.program.names numbers at ≡ SeqText setup.program.names numbers events
   pub reads : length events ≤ most_events → SeqReads (file_at setup.program.names numbers at) numbers setup.program.names events
 
--- No abort statement stands in the program, and the outcome is the file of that run, with the status of its end: the file of these events.
+-- The outcome is the file of that run, with the status of its end: the file of these events. The program calls for it when its collecting text is run.
 pub record IsRecorded {C : Type 0} (word : C → ℕ) (next : C → C) (p : PProgram) (types : TypeTable) (numbers : Numbering) (inputs : List (List ℤ)) (choices : C) (turns : ℕ) (o : Outcome) : Type 0 where
-  pub none : first_abort p ≡ None
   pub events : List Event
   pub recorded : AreRecorded (record { program = p; types = types; inputs = inputs }) numbers (recording word next p types numbers inputs choices turns) events
   pub is : o ≡ writes (file_at p.names numbers (recording word next p types numbers inputs choices turns)) (run_status (run_end (recording word next p types numbers inputs choices turns)))
-
--- The program that was read from these bytes calls for this outcome when its collecting text is run.
-abbrev pub RecordsProgram : {C : Type 0} → (C → ℕ) → (C → C) → PProgram → TypeTable → Numbering → List ℕ → List (List ℤ) → C → ℕ → Outcome → Type 0
-RecordsProgram word next p types numbers bytes inputs choices turns o = IsRecorded word next p types numbers inputs choices turns o ⊎ IsAborting p bytes o

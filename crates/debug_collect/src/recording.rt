@@ -1,6 +1,6 @@
 //! The sequence that a run of a collecting text records, on the output.
 
-ghost use Rattle.std.specs.Prelude.{◌≡◌, ◌≤◌, ◌<◌, ◌-◌, ◌^◌, ◌++◌, [], length, IfOk, OnOk};
+ghost use Rattle.std.specs.Prelude.{◌≡◌, ◌≤◌, ◌++◌, length, IfOk, OnOk};
 ghost use Rattle.ada_tree.specs.PlainProgram.{plain_program};
 ghost use Rattle.ada_static_rules.specs.Refusals.{types_in};
 ghost use Rattle.ded_io.specs.Written.{each_text};
@@ -13,15 +13,15 @@ ghost use Rattle.debug_outcome.specs.Outcomes.{writes};
 ghost use Rattle.debug_run.specs.RunOutcomes.{run_status};
 ghost use Rattle.debug_run.specs.texts.OutputText.{finished_lines};
 ghost use Rattle.collect_runs.specs.files.Files.{end_line, ended_line};
-ghost use Rattle.debug_collect.specs.Recorded.{RecordsProgram, event_lines, is_ended, opening, recorded_text, recorder_of};
+ghost use Rattle.debug_collect.specs.Recorded.{IsRecorded, event_lines, is_ended, opening, recorded_text, recorder_of};
 ghost use Rattle.debug_collect.specs.inner.Running.{IsFileOf};
 
-use crate::collecting::collect_failure;
 use crate::nowhere::Nowhere;
 use ada_check::{CheckError, Checked, check};
 use ada_tree::{Memory, Names, Program, Types};
 use ada_value::Inputs;
-use collect_xform::{collect, header_text};
+use collect_abort::collecting;
+use collect_xform::header_text;
 use debug_outcome::Stop;
 use debug_run::status_of;
 use ded_io::{Chooser, Sink};
@@ -40,14 +40,12 @@ pub(crate) struct Recorded {
     pub(crate) end: RunEnd,
 }
 
-/// Runs the collecting text of a legal original with its types and numbers, which was read from these bytes, with these inputs, each turn making the
+/// Runs the collecting text of a legal original with its types and numbers, with these inputs, each turn making the
 /// action that the next choice picks, for at most `turns` actions, and writes the sequence file of what its recorder has written. That is the file of a
 /// sequence which is feasible in the program with these inputs. It answers 0 where the run has ended, 10 where no action applies any more, and 11 where
-/// all turns were made and more actions apply. A program with an abort statement is refused, by the place of the first. All of the file is made before
-/// any of it is put.
+/// all turns were made and more actions apply. All of the file is made before any of it is put.
 pub fn write_recorded<'w, C: Chooser, K: Sink>(
     alloc: Global,
-    bytes: &[u8],
     program: &Program,
     types: &Types,
     numbers: &Numbers,
@@ -58,12 +56,11 @@ pub fn write_recorded<'w, C: Chooser, K: Sink>(
 ) -> Result<u8, Stop<'w>>
     requires legal { IsLegalOriginal (plain_program program.now) }
     requires own { Legal (plain_program program.now) types.now numbers.now Original }
-    requires length { length bytes.now < 2 ^ 32 - 1 }
-    ensures { Comes (RecordsProgram C.word C.next (plain_program program.now) types.now numbers.now bytes.now inputs.now choices.old turns) Never (K.told out.old) (K.told out.new) (K.faults out.old) (K.faults out.new) result }
+    ensures { Comes (IsRecorded C.word C.next (plain_program program.now) types.now numbers.now inputs.now choices.old turns) Never (K.told out.old) (K.told out.new) (K.faults out.old) (K.faults out.new) result }
 {
-    let text = match collect(alloc, program, types, numbers) {
+    let text = match collecting(alloc, program, types, numbers) {
         Ok(text) => text,
-        Err(error) => return Err(collect_failure(bytes, error)),
+        Err(Memory) => return Err(Stop::Memory),
     };
     match record(
         alloc,

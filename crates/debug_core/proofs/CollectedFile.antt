@@ -16,8 +16,7 @@ use Rattle.task_machine.specs.Judging.{VerdictIs}
 use Rattle.task_machine.specs.Views.{IsFeasible}
 use Rattle.debug_sequence.proofs.Sequences.{reads_as_unique, read_or_refused}
 use Rattle.debug_judge.specs.JudgeOutcomes.{IsVerdictText, SequenceMeans}
-use Rattle.debug_collect.specs.CollectOutcomes.{aborting_at}
-use Rattle.debug_collect.specs.Recorded.{IsRecorded, RecordsProgram}
+use Rattle.debug_collect.specs.Recorded.{IsRecorded}
 use Rattle.debug_outcome.specs.files.Giving.{Given, NothingGiven, BytesGiven, SeedGiven}
 use Rattle.debug_outcome.specs.Outcomes.{Outcome, writes}
 use Rattle.debug_core.specs.ChoiceTexts.{Choosing, FromList, FromSeed, AreBadChoices}
@@ -28,7 +27,7 @@ use Rattle.debug_core.specs.JudgeMeaning.{JudgeMeans}
 use Rattle.debug_core.specs.Starts.{IsStart}
 use Rattle.debug_core.proofs.OneStart.{start_or_not, start_carries}
 use Rattle.debug_core.proofs.Originals.{text_is_upper, text_has_lists}
-use Rattle.debug_core.proofs.Promised.{told, refused, no-start}
+use Rattle.debug_core.proofs.Promised.{told, no-start}
 use Rattle.debug_core.proofs.ShortNumbers.{are_short}
 
 no-choices : (given : Given) (o : Outcome) → HasWritten o → AreBadChoices given o → ⊥
@@ -94,15 +93,11 @@ module _ (text : List ℕ) (inputs : Option (List ℕ)) (file : List ℕ) (statu
             (subst (λ bytes. SeqReads bytes numbers setup.program.names k.events) (sym same) (k.recorded.reads few)) bound o h;
       }
 
-  of-program : {C : Type 0} (word : C → ℕ) (next : C → C) (choices : C) (turns : ℕ) → RecordsProgram word next setup.program setup.types numbers text setup.inputs choices turns (writes file status) → IsCollectedFile text inputs file
-  of-program word next choices turns (inl k) = of-recorded word next choices turns k
-  of-program word next choices turns (inr k) = absurd (refused (writes file status) (aborting_at text k.place.start) written k.is)
+  of-choices : (turns : ℕ) (x : Choosing) → RecordsBy setup numbers turns x (writes file status) → IsCollectedFile text inputs file
+  of-choices turns (FromList choices) h = of-recorded _ _ _ turns h
+  of-choices turns (FromSeed seed) h = of-recorded _ _ _ turns h
 
-  of-choices : (turns : ℕ) (x : Choosing) → RecordsBy text setup numbers turns x (writes file status) → IsCollectedFile text inputs file
-  of-choices turns (FromList choices) h = of-program _ _ _ turns h
-  of-choices turns (FromSeed seed) h = of-program _ _ _ turns h
-
-  of-given : (choices : Given) (turns : ℕ) → RecordsUnder text setup numbers choices turns (writes file status) → IsCollectedFile text inputs file
+  of-given : (choices : Given) (turns : ℕ) → RecordsUnder setup numbers choices turns (writes file status) → IsCollectedFile text inputs file
   of-given choices turns (inl k) = of-choices turns k.choosing k.called
   of-given choices turns (inr bad) = absurd (no-choices choices (writes file status) written bad)
 

@@ -15,20 +15,20 @@ use Rattle.debug_core.proofs.OneStart.{one_refused_text, legal_or_not, legal_car
 
 pub one_collected : (text : List ℕ) (o q : Outcome) → CollectMeans text o → CollectMeans text q → o ≡ q
 one_collected text o q (inl h) (inl k) =
-    one_collecting k.program k.types k.numbers text o q
-    (legal_carries text Original h.program k.program h.types k.types h.numbers k.numbers h.is_legal k.is_legal (λ p types numbers. CollectsProgram p types numbers text o) h.collected) k.collected
+    one_collecting k.program k.types k.numbers o q
+    (legal_carries text Original h.program k.program h.types k.types h.numbers k.numbers h.is_legal k.is_legal (λ p types numbers. CollectsProgram p types numbers o) h.collected) k.collected
 one_collected text o q (inl h) (inr k) = absurd (legal_or_not text Original h.program h.types h.numbers q h.is_legal k)
 one_collected text o q (inr h) (inl k) = absurd (legal_or_not text Original k.program k.types k.numbers o k.is_legal h)
 one_collected text o q (inr h) (inr k) = one_refused_text text Original o q h k
 
-one_by : (text : List ℕ) (setup : ProgramWithInputs) (numbers : Numbering) (turns : ℕ) (x : Choosing) (o q : Outcome) → RecordsBy text setup numbers turns x o → RecordsBy text setup numbers turns x q → o ≡ q
-one_by text setup numbers turns (FromList choices) o q h k = one_recording _ _ setup.program setup.types numbers text setup.inputs _ turns o q h k
-one_by text setup numbers turns (FromSeed seed) o q h k = one_recording _ _ setup.program setup.types numbers text setup.inputs _ turns o q h k
+one_by : (setup : ProgramWithInputs) (numbers : Numbering) (turns : ℕ) (x : Choosing) (o q : Outcome) → RecordsBy setup numbers turns x o → RecordsBy setup numbers turns x q → o ≡ q
+one_by setup numbers turns (FromList choices) o q h k = one_recording _ _ setup.program setup.types numbers setup.inputs _ turns o q h k
+one_by setup numbers turns (FromSeed seed) o q h k = one_recording _ _ setup.program setup.types numbers setup.inputs _ turns o q h k
 
 pub one_recorded : (text : List ℕ) (inputs : Option (List ℕ)) (choices : Given) (turns : ℕ) (o q : Outcome) → CollectRunMeans text inputs choices turns o → CollectRunMeans text inputs choices turns q → o ≡ q
 one_recorded text inputs choices turns o q (inl h) (inl k) =
-    one_by_choices (RecordsBy text k.setup k.numbers turns) (one_by text k.setup k.numbers turns) choices o q
-    (start_carries text Original inputs h.setup k.setup h.numbers k.numbers h.is_start k.is_start (λ setup numbers. RecordsUnder text setup numbers choices turns o) h.recorded) k.recorded
+    one_by_choices (RecordsBy k.setup k.numbers turns) (one_by k.setup k.numbers turns) choices o q
+    (start_carries text Original inputs h.setup k.setup h.numbers k.numbers h.is_start k.is_start (λ setup numbers. RecordsUnder setup numbers choices turns o) h.recorded) k.recorded
 one_recorded text inputs choices turns o q (inl h) (inr k) = absurd (start_or_not text Original inputs h.setup h.numbers q h.is_start k)
 one_recorded text inputs choices turns o q (inr h) (inl k) = absurd (start_or_not text Original inputs k.setup k.numbers o k.is_start h)
 one_recorded text inputs choices turns o q (inr h) (inr k) = one_refused_start text Original inputs o q h k

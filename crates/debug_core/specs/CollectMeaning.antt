@@ -14,7 +14,7 @@ pub record IsCollectedText (text : List ℕ) (o : Outcome) : Type 0 where
   pub types : TypeTable
   pub numbers : Numbering
   pub is_legal : IsLegalText text Original program types numbers
-  pub collected : CollectsProgram program types numbers text o
+  pub collected : CollectsProgram program types numbers o
 
 -- The bytes of a file that is collected call for this outcome.
 abbrev pub CollectMeans : List ℕ → Outcome → Type 0

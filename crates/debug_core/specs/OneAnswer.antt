@@ -1,4 +1,5 @@
--- That no answer is free: two calls of the same words over the same files and outputs end alike (this project's rule).
+-- That no answer is free where files and outputs are told: two calls of the same words over the same of these end alike (this project's rule). Of files and
+-- outputs of which nothing is told nothing is said.
 use Rattle.std.specs.Prelude.{◌≡◌, ℕ, List, Option, Some, ◌⊎◌}
 use Rattle.ded_io.specs.Counts.{Rose}
 use Rattle.ded_io.specs.Told.{ToldFile}

@@ -37,16 +37,7 @@ fn collect_text<'w, O: Sink>(alloc: Global, text: &[u8], out: &mut O) -> Result<
     ensures { Comes (CollectMeans text.now) Never (O.told out.old) (O.told out.new) (O.faults out.old) (O.faults out.new) result }
 {
     match read_legal(alloc, text, Mode::Original) {
-        Ok(legal) => {
-            write_collect(
-                alloc,
-                text,
-                &legal.program,
-                &legal.types,
-                &legal.numbers,
-                out,
-            )
-        }
+        Ok(legal) => { write_collect(alloc, &legal.program, &legal.types, &legal.numbers, out) }
         Err(stop) => Err(stop),
     }
 }

@@ -1,10 +1,10 @@
 // The command that runs the collecting text of a program, and writes the sequence that it records.
 
 ghost use Rattle.ada_tree.specs.PlainProgram.{plain_program};
-ghost use Rattle.debug_collect.specs.Recorded.{RecordsProgram};
+ghost use Rattle.debug_collect.specs.Recorded.{IsRecorded};
 ghost use Rattle.debug_outcome.specs.words.Commands.{name_as, source_as};
 ghost use Rattle.debug_outcome.specs.words.Words.{AsksCollectRun};
-ghost use Rattle.debug_outcome.specs.files.Giving.{AreShortChoices, IsShort, IsShortCollect, given_as, inputs_in};
+ghost use Rattle.debug_outcome.specs.files.Giving.{AreShortChoices, IsShortCollect, given_as, inputs_in};
 ghost use Rattle.debug_outcome.specs.Coming.{Comes, Never};
 ghost use Rattle.debug_outcome.specs.Traces.{HasLoads};
 ghost use Rattle.debug_core.specs.Answers.{CallsFor};
@@ -47,36 +47,25 @@ fn record_files<'w, O: Sink>(
     ensures { Comes (CollectRunMeans found.now.start.text.items (inputs_in found.now.start) (given_as found.now.choices) turns) Never (O.told out.old) (O.told out.new) (O.faults out.old) (O.faults out.new) result }
 {
     match read_start(alloc, &found.start, Mode::Original) {
-        Ok(start) => {
-            record_under(
-                alloc,
-                found.start.text.as_slice(),
-                &start,
-                &found.choices,
-                turns,
-                out,
-            )
-        }
+        Ok(start) => { record_under(alloc, &start, &found.choices, turns, out) }
         Err(stop) => Err(stop),
     }
 }
 
-// The same of a legal original that was read from this text, under the choices that are given.
+// The same of a legal original, under the choices that are given.
 fn record_under<'w, O: Sink>(
     alloc: Global,
-    text: &[u8],
     start: &Start,
     choices: &ChoiceBytes,
     turns: u64,
     out: &mut O,
 ) -> Result<u8, Stop<'w>>
     requires legal { IsLegalStart start.now }
-    requires short { IsShort text.now }
     requires choices { AreShortChoices choices.now }
-    ensures { Comes (RecordsUnder text.now (setup_of start.now) start.now.legal.numbers (given_as choices.now) turns) Never (O.told out.old) (O.told out.new) (O.faults out.old) (O.faults out.new) result }
+    ensures { Comes (RecordsUnder (setup_of start.now) start.now.legal.numbers (given_as choices.now) turns) Never (O.told out.old) (O.told out.new) (O.faults out.old) (O.faults out.new) result }
 {
     match choosing_of(alloc, choices) {
-        Ok(choosing) => record_chosen(alloc, text, start, choosing, turns, out),
+        Ok(choosing) => record_chosen(alloc, start, choosing, turns, out),
         Err(stop) => Err(stop),
     }
 }
@@ -84,29 +73,20 @@ fn record_under<'w, O: Sink>(
 // The same as the choices pick that are made so.
 fn record_chosen<'w, O: Sink>(
     alloc: Global,
-    text: &[u8],
     start: &Start,
     choosing: Choosing,
     turns: u64,
     out: &mut O,
 ) -> Result<u8, Stop<'w>>
     requires legal { IsLegalStart start.now }
-    requires short { IsShort text.now }
-    ensures { Comes (RecordsBy text.now (setup_of start.now) start.now.legal.numbers turns (choosing_of choosing)) Never (O.told out.old) (O.told out.new) (O.faults out.old) (O.faults out.new) result }
+    ensures { Comes (RecordsBy (setup_of start.now) start.now.legal.numbers turns (choosing_of choosing)) Never (O.told out.old) (O.told out.new) (O.faults out.old) (O.faults out.new) result }
 {
     match choosing {
         Choosing::FromList(choices) => {
-            record_by(
-                alloc,
-                text,
-                start,
-                &mut ListChooser::new(choices),
-                turns,
-                out,
-            )
+            record_by(alloc, start, &mut ListChooser::new(choices), turns, out)
         }
         Choosing::FromSeed(seed) => {
-            record_by(alloc, text, start, &mut SeedChooser::new(seed), turns, out)
+            record_by(alloc, start, &mut SeedChooser::new(seed), turns, out)
         }
     }
 }
@@ -114,19 +94,16 @@ fn record_chosen<'w, O: Sink>(
 // The same under the picks of a chooser.
 fn record_by<'w, C: Chooser, O: Sink>(
     alloc: Global,
-    text: &[u8],
     start: &Start,
     choices: &mut C,
     turns: u64,
     out: &mut O,
 ) -> Result<u8, Stop<'w>>
     requires legal { IsLegalStart start.now }
-    requires short { IsShort text.now }
-    ensures { Comes (RecordsProgram C.word C.next (plain_program start.now.legal.program) start.now.legal.types start.now.legal.numbers text.now start.now.inputs choices.old turns) Never (O.told out.old) (O.told out.new) (O.faults out.old) (O.faults out.new) result }
+    ensures { Comes (IsRecorded C.word C.next (plain_program start.now.legal.program) start.now.legal.types start.now.legal.numbers start.now.inputs choices.old turns) Never (O.told out.old) (O.told out.new) (O.faults out.old) (O.faults out.new) result }
 {
     write_recorded(
         alloc,
-        text,
         &start.legal.program,
         &start.legal.types,
         &start.legal.numbers,

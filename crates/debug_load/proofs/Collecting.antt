@@ -1,10 +1,9 @@
 -- What the run of the collecting text of LOAD comes to.
-use Rattle.std.proofs.Common.{◌≡◌, ℕ, ℤ, List, [], Option, Some, None, Err, inl, inr, refl, sym, ap, ◌∙◌, subst}
+use Rattle.std.proofs.Common.{◌≡◌, ℕ, ℤ, List, [], Option, Some, Err, refl, sym, ap, ◌∙◌, subst}
 use Rattle.std.proofs.lemmas.Option.{same_Some}
 use Rattle.rand_pcg.specs.Lcg.{Lcg}
 use Rattle.ded_io.specs.Written.{appended}
 use Rattle.ded_io.specs.seeds.Seeded.{seeded, word_of, behind_word}
-use Rattle.ada_tree.specs.declared.naming.Span.{Span}
 use Rattle.ada_tree.specs.PlainProgram.{PProgram}
 use Rattle.ada_tree.specs.TypeTable.{TypeTable}
 use Rattle.ada_static_rules.specs.Declaring.{predefined_types}
@@ -22,19 +21,10 @@ use Rattle.debug_outcome.specs.Outcomes.{Outcome, writes, refuses}
 use Rattle.debug_outcome.specs.declared.refusal.Refusal.{Refusal}
 use Rattle.debug_outcome.proofs.Comings.{line_is_some}
 use Rattle.debug_run.specs.RunOutcomes.{run_status}
-use Rattle.debug_collect.specs.CollectOutcomes.{IsAborting}
-use Rattle.debug_collect.specs.Recorded.{AreRecorded, IsRecorded, RecordsProgram, file_at, recording}
+use Rattle.debug_collect.specs.Recorded.{AreRecorded, IsRecorded, file_at, recording}
 use Rattle.debug_load.specs.LoadOutcomes.{collecting_of, load_turns}
 use Rattle.debug_load.specs.declared.recording.Collected.{Collected}
 use Rattle.debug_load.specs.inner.Loaded.{IsCollectedAs, IsLoadOf}
-use Rattle.debug_load.proofs.Original.{load_has_no_abort}
-
--- no abort statement is told of LOAD
-none_aborting : (n : ℕ) (bytes : List ℕ) (o : Outcome) → IsAborting (load_tree n) bytes o → ⊥
-none_aborting n bytes o h = differ (sym (load_has_no_abort n) ∙ h.first)
-  where
-    differ : (let nothing : Option Span = None in nothing) ≡ Some h.place → ⊥
-    differ e = cc
 
 -- what stands where a run of the collecting text of a program has come to
 module _ (p : PProgram) (types : TypeTable) (numbers : Numbering) (choices : Lcg) (turns : ℕ) (at : Position Lcg) (there : recording word_of behind_word p types numbers [] choices turns ≡ at) where
@@ -51,21 +41,19 @@ collecting_is : (n : ℕ) → recording word_of behind_word (load_tree n) predef
 unfolding collecting_of
 collecting_is n = refl
 
-module _ (n : ℕ) (bytes : List ℕ) where
+module _ (n : ℕ) where
   abbrev Records : Outcome → Type 0
-  Records = RecordsProgram word_of behind_word (load_tree n) predefined_types (load_numbers n) bytes [] (seeded n) load_turns
+  Records = IsRecorded word_of behind_word (load_tree n) predefined_types (load_numbers n) [] (seeded n) load_turns
 
   -- the text that it writes is the file of the events that were recorded, with the status of the end
   pub file_written : (collected : Collected) → Records (writes collected.file.bytes collected.status) → IsCollectedAs n collected
-  file_written collected (inl h) =
+  file_written collected h =
       let (file, status, events, recorded) = written_at (load_tree n) predefined_types (load_numbers n) (seeded n) load_turns (collecting_of n) (collecting_is n) collected.file.bytes collected.status h in
       record { file = file; status = status; events = events; recorded = recorded }
-  file_written collected (inr h) = absurd (none_aborting n bytes (writes collected.file.bytes collected.status) h)
 
   -- it is not refused
   pub none_refused : (refusal : Refusal) → Records (refuses refusal) → ⊥
-  none_refused refusal (inl h) = line_is_some refusal (ap (λ (o : Outcome). o.err) h.is)
-  none_refused refusal (inr h) = none_aborting n bytes (refuses refusal) h
+  none_refused refusal h = line_is_some refusal (ap (λ (o : Outcome). o.err) h.is)
 
 -- ---- LOAD by its definition
 
@@ -91,23 +79,23 @@ status_of_ended end h = ap run_status h
 
 -- ---- what the code has of the run
 
-module _ (n : ℕ) (bytes : List ℕ) (p : PProgram) (types : TypeTable) (numbers : Numbering) (load : IsLoadOf n p types numbers) (inputs : List (List ℤ)) (none : inputs ≡ []) (choices : Lcg) (seeds : choices ≡ seeded n) (turns : ℕ) (most : turns ≡ load_turns) where
-  as_records : (o : Outcome) → RecordsProgram word_of behind_word p types numbers bytes inputs choices turns o → Records n bytes o
+module _ (n : ℕ) (p : PProgram) (types : TypeTable) (numbers : Numbering) (load : IsLoadOf n p types numbers) (inputs : List (List ℤ)) (none : inputs ≡ []) (choices : Lcg) (seeds : choices ≡ seeded n) (turns : ℕ) (most : turns ≡ load_turns) where
+  as_records : (o : Outcome) → IsRecorded word_of behind_word p types numbers inputs choices turns o → Records n o
   as_records o h =
-      as_load n p types numbers load (λ q t m. RecordsProgram word_of behind_word q t m bytes [] (seeded n) load_turns o)
-      (subst (λ (i : List (List ℤ)). RecordsProgram word_of behind_word p types numbers bytes i (seeded n) load_turns o) none
-      (subst (λ (x : Lcg). RecordsProgram word_of behind_word p types numbers bytes inputs x load_turns o) seeds
-      (subst (λ (k : ℕ). RecordsProgram word_of behind_word p types numbers bytes inputs choices k o) most h)))
+      as_load n p types numbers load (λ q t m. IsRecorded word_of behind_word q t m [] (seeded n) load_turns o)
+      (subst (λ (i : List (List ℤ)). IsRecorded word_of behind_word p types numbers i (seeded n) load_turns o) none
+      (subst (λ (x : Lcg). IsRecorded word_of behind_word p types numbers inputs x load_turns o) seeds
+      (subst (λ (k : ℕ). IsRecorded word_of behind_word p types numbers inputs choices k o) most h)))
 
   pub was_collected : (collected : Collected) (before : List ℕ) (faults faults' : ℕ) → before ≡ [] →
-      HasPut (RecordsProgram word_of behind_word p types numbers bytes inputs choices turns) (Some before) (Some collected.file.bytes) faults faults' collected.status → IsCollectedAs n collected
+      HasPut (IsRecorded word_of behind_word p types numbers inputs choices turns) (Some before) (Some collected.file.bytes) faults faults' collected.status → IsCollectedAs n collected
   was_collected collected before faults faults' empty h =
       let same : collected.file.bytes ≡ h.text = same_Some collected.file.bytes h.text (h.put.0 ∙ ap (λ (b : List ℕ). appended (Some b) h.text) empty) in
-      file_written n bytes collected (as_records (writes collected.file.bytes collected.status) (subst (λ (t : List ℕ). RecordsProgram word_of behind_word p types numbers bytes inputs choices turns (writes t collected.status)) (sym same) h.called))
+      file_written n collected (as_records (writes collected.file.bytes collected.status) (subst (λ (t : List ℕ). IsRecorded word_of behind_word p types numbers inputs choices turns (writes t collected.status)) (sym same) h.called))
 
   pub was_not_refused : (stop : Stop) (refusal : Refusal) → stop ≡ Refused refusal → (out out' : Option (List ℕ)) (faults faults' : ℕ) →
-      Comes (RecordsProgram word_of behind_word p types numbers bytes inputs choices turns) Never out out' faults faults' (Err stop) → ⊥
+      Comes (IsRecorded word_of behind_word p types numbers inputs choices turns) Never out out' faults faults' (Err stop) → ⊥
   was_not_refused stop refusal is out out' faults faults' h =
-      none_refused n bytes refusal
+      none_refused n refusal
       (as_records (refuses refusal)
-      (subst (λ (s : Stop). Comes (RecordsProgram word_of behind_word p types numbers bytes inputs choices turns) Never out out' faults faults' (Err s)) is h).0)
+      (subst (λ (s : Stop). Comes (IsRecorded word_of behind_word p types numbers inputs choices turns) Never out out' faults faults' (Err s)) is h).0)

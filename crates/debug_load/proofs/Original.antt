@@ -1,4 +1,4 @@
--- LOAD is a legal original as the laws of rewritings ask, and no abort statement stands in it.
+-- LOAD is a legal original as the laws of rewritings ask.
 use Rattle.std.proofs.Common.{◌≡◌, ℕ, zero, suc, ◌+◌, ◌<◌, ◌≤◌, ◌^◌, lit<, Bool, true, false, cond, List, [], ◌∷◌, ◌++◌, length, map, codes, None, refl, sym, subst, arith, add-one}
 use Rattle.std.specs.List.{range_with_len, list_any, fold}
 use Rattle.std.specs.Str.{bytes_eq}
@@ -15,7 +15,6 @@ use Rattle.legal_programs.proofs.rewritten_types.Lookups.{place-all}
 use Rattle.normal_laws.specs.existence.Laws.{IsLegalOriginal}
 use Rattle.normal_laws.specs.existence.units.Weights.{AreLight, IsLight}
 use Rattle.normal_laws.proofs.existence.Instance.{IsOther, small-other}
-use Rattle.collect_model.specs.FirstAbort.{first_abort, with_decl}
 use Rattle.load_gen.specs.LoadTree.{buffer_body, load_names, load_tree, producer_body, producer_task, producer_text, producers}
 use Rattle.load_gen.specs.LoadNumbers.{load_numbers}
 use Rattle.load_gen.proofs.CheckRules.{checked}
@@ -88,16 +87,3 @@ load_is_original n le = record {
   small = subst IsSmall (sym (types n)) small;
   light = light n;
 }
-
--- ---- no abort statement
-
-bodies-none : (c k : ℕ) → fold with_decl None (decl_list (decls_of (map producer_body (range_with_len k c)))) ≡ None
-bodies-none zero k = refl
-bodies-none (suc c) k = bodies-none c (k + 1)
-
-later-none : (n c k : ℕ) → fold with_decl None (decl_list (decls_of (map producer_task (range_with_len k c) ++ (buffer_body ∷ map producer_body (producers n))))) ≡ None
-later-none n zero k = bodies-none n 1
-later-none n (suc c) k = later-none n c (k + 1)
-
-pub load_has_no_abort : (n : ℕ) → first_abort (load_tree n) ≡ None
-load_has_no_abort n = later-none n n 1

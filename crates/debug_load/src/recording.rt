@@ -47,7 +47,6 @@ pub(crate) fn collect_load(
     let mut choices = SeedChooser::new(n as u64);
     match write_recorded(
         alloc,
-        b"",
         program,
         types,
         numbers,

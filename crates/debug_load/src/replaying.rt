@@ -48,7 +48,6 @@ pub(crate) fn replay_load(
         Ok(text) => run_text(alloc, &text, seed),
         Err(XformError::Memory) => Err(Memory),
         Err(XformError::TooManyEvents { .. }) => unreachable!(),
-        Err(XformError::HasAbort { .. }) => unreachable!(),
     }
 }
 

@@ -8,7 +8,7 @@ use Rattle.debug_outcome.specs.Delivery.{Sides, IsDelivered, Ends}
 use Rattle.debug_outcome.specs.Coming.{IsRefusal, stop_by, Stops, HasPut, HasBroken, Comes, Tells}
 use Rattle.debug_outcome.specs.Refusals.{refusal_line, first_words, unread_words, memory_line}
 use Rattle.debug_outcome.specs.declared.refusal.Refusal.{Refusal}
-use Rattle.debug_outcome.specs.declared.refusal.Refusal.TheVariants.{BadText, BadProgram, Usage, BadSequence, NoOrder, BadInputs, BadChoices, BadConstraints, HasAbort, Unreadable, TooLong, TooMany, LongText}
+use Rattle.debug_outcome.specs.declared.refusal.Refusal.TheVariants.{BadText, BadProgram, Usage, BadSequence, NoOrder, BadInputs, BadChoices, BadConstraints, Unreadable, TooLong, TooMany, LongText}
 use Rattle.debug_outcome.specs.declared.refusal.Listed.TheVariants.{Events, Inputs, Choices, Constraints}
 use Rattle.debug_outcome.specs.declared.refusal.TextFault.TheVariants.{Misspelled, LongToken, TooNested}
 use Rattle.debug_outcome.specs.declared.refusal.RuleFault.TheVariants.{Broken, Passed}
@@ -78,7 +78,6 @@ line_is_some (NoOrder task) e = cc
 line_is_some (BadInputs found line) e = cc
 line_is_some (BadChoices found line) e = cc
 line_is_some (BadConstraints found line) e = cc
-line_is_some (HasAbort line column) e = cc
 line_is_some (Unreadable name) e = cc
 line_is_some (TooLong limit) e = cc
 line_is_some (TooMany Events limit) e = cc

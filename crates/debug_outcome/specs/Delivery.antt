@@ -35,7 +35,7 @@ IsCutOut o s = (o.err ≡ []) × IsBrokenOff s.out s.out' s.out_faults s.out_fau
 abbrev pub IsCutErr : Outcome → Sides → Type 0
 IsCutErr o s = (o.err ≢ []) × IsWritten s.out s.out' s.out_faults s.out_faults' o.out × IsBrokenOff s.err s.err' s.err_faults s.err_faults' o.err
 
--- A write failed, nothing more was put anywhere, and the status is 7.
+-- A write failed, what was put is a front of the text, and the status is 7.
 pub record IsCutShort (o : Outcome) (s : Sides) (status : ℕ) : Type 0 where
   pub where_it_failed : IsCutOut o s ⊎ IsCutErr o s
   pub is : status ≡ 7

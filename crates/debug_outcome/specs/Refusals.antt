@@ -8,7 +8,7 @@ use Rattle.ada_check_rules.specs.declared.rules.refusals.Rule.TheVariants as che
 use Rattle.syn_event.specs.declared.limits.What.{What}
 use Rattle.syn_event.specs.declared.limits.What.TheVariants as counted
 use Rattle.debug_outcome.specs.declared.refusal.Refusal.{Refusal}
-use Rattle.debug_outcome.specs.declared.refusal.Refusal.TheVariants.{BadText, BadProgram, Usage, BadSequence, NoOrder, BadInputs, BadChoices, BadConstraints, HasAbort, Unreadable, TooLong, TooMany, LongText}
+use Rattle.debug_outcome.specs.declared.refusal.Refusal.TheVariants.{BadText, BadProgram, Usage, BadSequence, NoOrder, BadInputs, BadChoices, BadConstraints, Unreadable, TooLong, TooMany, LongText}
 use Rattle.debug_outcome.specs.declared.refusal.TextFault.{TextFault}
 use Rattle.debug_outcome.specs.declared.refusal.TextFault.TheVariants.{Misspelled, LongToken, TooNested}
 use Rattle.debug_outcome.specs.declared.refusal.Misspelling.{Misspelling}
@@ -46,7 +46,6 @@ refusal_status (NoOrder task) = 3
 refusal_status (BadInputs found line) = 12
 refusal_status (BadChoices found line) = 12
 refusal_status (BadConstraints found line) = 15
-refusal_status (HasAbort line column) = 13
 refusal_status (Unreadable name) = 6
 refusal_status (TooLong limit) = 8
 refusal_status (TooMany what limit) = 8
@@ -69,7 +68,6 @@ first_words (NoOrder task) = codes "ded: sequence refused: NoOrder at task "
 first_words (BadInputs found line) = codes "ded: inputs refused: "
 first_words (BadChoices found line) = codes "ded: choices refused: "
 first_words (BadConstraints found line) = codes "ded: constraints refused: "
-first_words (HasAbort line column) = codes "ded: cannot collect: "
 first_words (Unreadable name) = unread_words
 first_words (TooLong limit) = codes "ded: limit file "
 first_words (TooMany listed.Events limit) = codes "ded: limit events "
@@ -190,7 +188,6 @@ refusal_line (NoOrder task) = named_line (first_words (NoOrder task)) (decimal t
 refusal_line (BadInputs found line) = fault_line (first_words (BadInputs found line)) (input_fault_name found) line
 refusal_line (BadChoices found line) = fault_line (first_words (BadChoices found line)) (input_fault_name found) line
 refusal_line (BadConstraints found line) = fault_line (first_words (BadConstraints found line)) (constraint_fault_name found) line
-refusal_line (HasAbort line column) = place_line (first_words (HasAbort line column)) (codes "abort") line column
 refusal_line (Unreadable name) = named_line unread_words name.now
 refusal_line (TooLong limit) = named_line (first_words (TooLong limit)) (decimal limit)
 refusal_line (TooMany what limit) = named_line (first_words (TooMany what limit)) (decimal limit)

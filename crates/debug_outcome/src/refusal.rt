@@ -26,8 +26,6 @@ pub enum Refusal<'w> {
     BadChoices { fault: InputFault, line: u32 },
     /// The constraints are refused, at a line.
     BadConstraints { fault: ConstraintFault, line: u32 },
-    /// An abort statement stands in a program that is to be collected, the first one at this place.
-    HasAbort { line: u32, column: u32 },
     /// The file of this name cannot be read.
     Unreadable(&'w str),
     /// A file is longer than the limit, in bytes.
@@ -132,7 +130,6 @@ impl Refusal<'_> {
             Refusal::BadInputs { .. } => 12,
             Refusal::BadChoices { .. } => 12,
             Refusal::BadConstraints { .. } => 15,
-            Refusal::HasAbort { .. } => 13,
             Refusal::Unreadable(_) => 6,
             Refusal::TooLong { .. } => 8,
             Refusal::TooMany { .. } => 8,

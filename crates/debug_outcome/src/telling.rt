@@ -50,15 +50,6 @@ pub(crate) fn put_refusal<K: Sink>(refusal: Refusal<'_>, err: &mut K) -> Result<
             )
         }
         Refusal::BadConstraints { fault, line } => put_bad_constraints(fault, line, err),
-        Refusal::HasAbort { line, column } => {
-            put_place(
-                Refusal::HasAbort { line, column },
-                b"abort",
-                line,
-                column,
-                err,
-            )
-        }
         Refusal::Unreadable(name) => put_unread(name, err),
         Refusal::TooLong { limit } => put_numbered(Refusal::TooLong { limit }, limit, err),
         Refusal::TooMany { what, limit } => {
@@ -330,7 +321,6 @@ fn first_words(refusal: Refusal<'_>) -> &'static [u8]
         Refusal::BadInputs { .. } => b"ded: inputs refused: ",
         Refusal::BadChoices { .. } => b"ded: choices refused: ",
         Refusal::BadConstraints { .. } => b"ded: constraints refused: ",
-        Refusal::HasAbort { .. } => b"ded: cannot collect: ",
         Refusal::Unreadable(_) => unread_words(),
         Refusal::TooLong { .. } => b"ded: limit file ",
         Refusal::TooMany {

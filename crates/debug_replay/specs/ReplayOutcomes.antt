@@ -55,4 +55,3 @@ ReplaysLines p types numbers lines o = IsReplayWritten p types numbers lines o â
 abbrev pub refusal_of_replay : XformError â†’ Option Refusal
 refusal_of_replay (error.TooManyEvents limit) = Some (TooMany Events limit)
 refusal_of_replay error.Memory = None
-refusal_of_replay (error.HasAbort at) = None

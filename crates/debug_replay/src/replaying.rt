@@ -57,6 +57,5 @@ fn replay_failure<'w>(error: XformError) -> Stop<'w>
             limit,
         }),
         XformError::Memory => Stop::Memory,
-        XformError::HasAbort { .. } => Stop::Memory,
     }
 }

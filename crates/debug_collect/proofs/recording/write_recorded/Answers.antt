@@ -1,14 +1,11 @@
-use Rattle.std.proofs.Common.{◌≡◌, Err, inr, refl, sym, subst}
-use Rattle.ada_tree.specs.declared.whole.Program.{Program}
+use Rattle.std.proofs.Common.{◌≡◌}
 use Rattle.ada_tree.specs.PlainProgram.{PProgram, plain_program}
-use Rattle.debug_outcome.specs.Coming.{Comes, Never, stop_by}
-use Rattle.debug_outcome.specs.Outcomes.{Outcome, writes}
-use Rattle.debug_outcome.specs.declared.stopping.Stop.{Stop}
-use Rattle.debug_outcome.proofs.Comings.{comes_more, stops_come, stops_more}
+use Rattle.debug_outcome.specs.Coming.{Never}
+use Rattle.debug_outcome.specs.Outcomes.{writes}
+use Rattle.debug_outcome.proofs.Comings.{comes_more}
 use Rattle.debug_run.specs.RunOutcomes.{run_status}
-use Rattle.debug_collect.specs.CollectOutcomes.{IsAborting, refusal_of_collect}
-use Rattle.debug_collect.specs.Recorded.{RecordsProgram}
-use Rattle.debug_collect.proofs.Keeping.{run_called, stops_collect, text_legal}
+use Rattle.debug_collect.specs.Recorded.{IsRecorded}
+use Rattle.debug_collect.proofs.Keeping.{run_called, text_legal}
 use Rattle.debug_collect.proofs.Legality.{few_tasks}
 use Rattle.debug_collect.proofs.recording.write_recorded.Goals as goal
 
@@ -23,19 +20,8 @@ pub returns-in-Ok-record : goal.returns-in-Ok-record
 returns-in-Ok-record g c =
     let p : PProgram = plain_program c.args.program.now in
     comes_more (λ o. o ≡ writes c.in-Ok-record.recorded.file.items (run_status c.in-Ok-record.recorded.end))
-    (RecordsProgram g.C.Chooser.word g.C.Chooser.next p c.args.types.now c.args.numbers.now c.args.bytes.now c.args.inputs.now c.args.choices.now c.args.turns) Never Never
+    (IsRecorded g.C.Chooser.word g.C.Chooser.next p c.args.types.now c.args.numbers.now c.args.inputs.now c.args.choices.now c.args.turns) Never Never
     (g.K.Sink.told c.args.out.now) (g.K.Sink.told c.put_recorded.new.out) (g.K.Sink.faults c.args.out.now) (g.K.Sink.faults c.put_recorded.new.out) c.put_recorded.result
-    (λ o is. run_called p c.requires.legal c.args.types.now c.args.numbers.now c.requires.own c.args.bytes.now (plain_program c.in-Ok.text) c.in-Ok.ensures.text
+    (λ o is. run_called p c.requires.legal c.args.types.now c.args.numbers.now c.requires.own (plain_program c.in-Ok.text) c.in-Ok.ensures.text
     g.C.Chooser.word g.C.Chooser.next c.args.inputs.now c.args.choices.now c.args.turns c.in-Ok-record.recorded c.in-Ok-record.ensures o is) (λ o never. never)
     c.put_recorded.ensures
-
-pub returns-in-Err : goal.returns-in-Err
-returns-in-Err g c =
-    let p : PProgram = plain_program c.args.program.now in
-    let A : Outcome → Type 0 = RecordsProgram g.C.Chooser.word g.C.Chooser.next p c.args.types.now c.args.numbers.now c.args.bytes.now c.args.inputs.now c.args.choices.now c.args.turns in
-    subst
-    (λ (stop : Stop). Comes A Never (g.K.Sink.told c.args.out.now) (g.K.Sink.told c.args.out.now) (g.K.Sink.faults c.args.out.now) (g.K.Sink.faults c.args.out.now) (Err stop))
-    (sym c.collect_failure.ensures)
-    (stops_come A Never (g.K.Sink.told c.args.out.now) (g.K.Sink.faults c.args.out.now) (stop_by (refusal_of_collect c.args.bytes.now c.in-Err.error))
-    (stops_more (IsAborting p c.args.bytes.now) A (stop_by (refusal_of_collect c.args.bytes.now c.in-Err.error)) (λ o aborting. inr aborting)
-    (stops_collect p c.args.types.now c.args.numbers.now c.args.bytes.now {A = Program} (Err c.in-Err.error) c.in-Err.error refl c.in-Err.ensures.abort c.in-Err.ensures.cause)))

@@ -22,6 +22,6 @@ write_collect-requires-clause-own g c =
 pub returns-in-Ok : goal.returns-in-Ok
 returns-in-Ok g c =
     let p : PProgram = plain_program c.in-Ok.legal.program in
-    comes_more (CollectsProgram p c.in-Ok.legal.types c.in-Ok.legal.numbers c.args.text.now) (CollectMeans c.args.text.now) Never Never (g.O.Sink.told c.args.out.now) (g.O.Sink.told c.write_collect.new.out) (g.O.Sink.faults c.args.out.now) (g.O.Sink.faults c.write_collect.new.out) c.write_collect.result
+    comes_more (CollectsProgram p c.in-Ok.legal.types c.in-Ok.legal.numbers) (CollectMeans c.args.text.now) Never Never (g.O.Sink.told c.args.out.now) (g.O.Sink.told c.write_collect.new.out) (g.O.Sink.faults c.args.out.now) (g.O.Sink.faults c.write_collect.new.out) c.write_collect.result
     (λ o collected. inl (record { program = p; types = c.in-Ok.legal.types; numbers = c.in-Ok.legal.numbers; is_legal = c.in-Ok.ensures.program; collected = collected })) (λ o never. never)
     c.write_collect.ensures

@@ -9,7 +9,7 @@ pub returns-in-FromList : goal.returns-in-FromList
 returns-in-FromList g c =
     rw c.in-FromList.is
     (subst
-    (λ (list : List ℕ). Comes (RecordsBy c.args.text.now (setup_of c.args.start.now) c.args.start.now.legal.numbers c.args.turns (FromList list)) Never (g.O.Sink.told c.args.out.now) (g.O.Sink.told c.record_by.new.out) (g.O.Sink.faults c.args.out.now) (g.O.Sink.faults c.record_by.new.out) c.record_by.result)
+    (λ (list : List ℕ). Comes (RecordsBy (setup_of c.args.start.now) c.args.start.now.legal.numbers c.args.turns (FromList list)) Never (g.O.Sink.told c.args.out.now) (g.O.Sink.told c.record_by.new.out) (g.O.Sink.faults c.args.out.now) (g.O.Sink.faults c.record_by.new.out) c.record_by.result)
     c.new.ensures c.record_by.ensures)
 
 pub returns-in-FromSeed : goal.returns-in-FromSeed

@@ -1,7 +1,7 @@
-use Rattle.std.proofs.Common.{List, ℕ, inl, subst}
+use Rattle.std.proofs.Common.{inl}
 use Rattle.ada_tree.specs.PlainProgram.{plain_program}
 use Rattle.syn_event.specs.declared.numbering.Mode.TheVariants.{Original}
-use Rattle.debug_outcome.specs.Coming.{Comes, Never}
+use Rattle.debug_outcome.specs.Coming.{Never}
 use Rattle.debug_outcome.specs.files.Giving.{given_as, inputs_in}
 use Rattle.debug_outcome.proofs.Comings.{comes_more}
 use Rattle.debug_core.specs.CollectRunMeaning.{CollectRunMeans, RecordsUnder}
@@ -20,9 +20,7 @@ record_under-requires-clause-legal g c =
 
 pub returns-in-Ok : goal.returns-in-Ok
 returns-in-Ok g c =
-    comes_more (RecordsUnder c.args.found.now.start.text.items (setup_of c.in-Ok.start) c.in-Ok.start.legal.numbers (given_as c.args.found.now.choices) c.args.turns) (CollectRunMeans c.args.found.now.start.text.items (inputs_in c.args.found.now.start) (given_as c.args.found.now.choices) c.args.turns) Never Never
+    comes_more (RecordsUnder (setup_of c.in-Ok.start) c.in-Ok.start.legal.numbers (given_as c.args.found.now.choices) c.args.turns) (CollectRunMeans c.args.found.now.start.text.items (inputs_in c.args.found.now.start) (given_as c.args.found.now.choices) c.args.turns) Never Never
     (g.O.Sink.told c.args.out.now) (g.O.Sink.told c.record_under.new.out) (g.O.Sink.faults c.args.out.now) (g.O.Sink.faults c.record_under.new.out) c.record_under.result
     (λ o recorded. inl (record { setup = setup_of c.in-Ok.start; numbers = c.in-Ok.start.legal.numbers; is_start = c.in-Ok.ensures.start; recorded = recorded })) (λ o never. never)
-    (subst
-    (λ (text : List ℕ). Comes (RecordsUnder text (setup_of c.in-Ok.start) c.in-Ok.start.legal.numbers (given_as c.args.found.now.choices) c.args.turns) Never (g.O.Sink.told c.args.out.now) (g.O.Sink.told c.record_under.new.out) (g.O.Sink.faults c.args.out.now) (g.O.Sink.faults c.record_under.new.out) c.record_under.result)
-    c.as_slice.ensures.value c.record_under.ensures)
+    c.record_under.ensures

@@ -9,12 +9,12 @@ use Rattle.debug_core.proofs.collect_run_command.record_under.Goals as goal
 
 pub returns-in-Ok : goal.returns-in-Ok
 returns-in-Ok g c =
-    comes_more (RecordsBy c.args.text.now (setup_of c.args.start.now) c.args.start.now.legal.numbers c.args.turns (choosing_of c.in-Ok.choosing)) (RecordsUnder c.args.text.now (setup_of c.args.start.now) c.args.start.now.legal.numbers (given_as c.args.choices.now) c.args.turns) Never Never
+    comes_more (RecordsBy (setup_of c.args.start.now) c.args.start.now.legal.numbers c.args.turns (choosing_of c.in-Ok.choosing)) (RecordsUnder (setup_of c.args.start.now) c.args.start.now.legal.numbers (given_as c.args.choices.now) c.args.turns) Never Never
     (g.O.Sink.told c.args.out.now) (g.O.Sink.told c.record_chosen.new.out) (g.O.Sink.faults c.args.out.now) (g.O.Sink.faults c.record_chosen.new.out) c.record_chosen.result
     (λ o recorded. inl (record { choosing = choosing_of c.in-Ok.choosing; are = c.in-Ok.ensures.choosing; called = recorded })) (λ o never. never)
     c.record_chosen.ensures
 
 pub returns-in-Err : goal.returns-in-Err
 returns-in-Err g c =
-    stops_come (RecordsUnder c.args.text.now (setup_of c.args.start.now) c.args.start.now.legal.numbers (given_as c.args.choices.now) c.args.turns) Never (g.O.Sink.told c.args.out.now) (g.O.Sink.faults c.args.out.now) c.in-Err.stop
-    (stops_more (AreBadChoices (given_as c.args.choices.now)) (RecordsUnder c.args.text.now (setup_of c.args.start.now) c.args.start.now.legal.numbers (given_as c.args.choices.now) c.args.turns) c.in-Err.stop (λ o bad. inr bad) c.in-Err.ensures.cause)
+    stops_come (RecordsUnder (setup_of c.args.start.now) c.args.start.now.legal.numbers (given_as c.args.choices.now) c.args.turns) Never (g.O.Sink.told c.args.out.now) (g.O.Sink.faults c.args.out.now) c.in-Err.stop
+    (stops_more (AreBadChoices (given_as c.args.choices.now)) (RecordsUnder (setup_of c.args.start.now) c.args.start.now.legal.numbers (given_as c.args.choices.now) c.args.turns) c.in-Err.stop (λ o bad. inr bad) c.in-Err.ensures.cause)

@@ -17,11 +17,11 @@ write_recorded-requires-clause-own c =
 
 pub returns-in-Ok : goal.returns-in-Ok
 returns-in-Ok c =
-    was_collected c.args.n _ (plain_program c.args.program.now) c.args.types.now c.args.numbers.now c.requires _ (ap (map (λ v. v.items)) c.new.ensures.items)
+    was_collected c.args.n (plain_program c.args.program.now) c.args.types.now c.args.numbers.now c.requires _ (ap (map (λ v. v.items)) c.new.ensures.items)
     c.new-choices.result c.new-choices.ensures c.most_turns.result c.most_turns.ensures record { file = c.write_recorded.new.out; status = c.in-Ok.status } c.new-file.result.bytes _ _
     (ap (λ (g : Gathered). g.bytes) c.new-file.ensures) c.in-Ok.ensures
 
 pub unreachable-requires : goal.unreachable-requires
 unreachable-requires c =
-    was_not_refused c.args.n _ (plain_program c.args.program.now) c.args.types.now c.args.numbers.now c.requires _ (ap (map (λ v. v.items)) c.new.ensures.items)
+    was_not_refused c.args.n (plain_program c.args.program.now) c.args.types.now c.args.numbers.now c.requires _ (ap (map (λ v. v.items)) c.new.ensures.items)
     c.new-choices.result c.new-choices.ensures c.most_turns.result c.most_turns.ensures c.in-Err-Refused.field-0 c.in-Err-Refused.field-0-0 c.in-Err-Refused.field-0-is _ _ _ _ c.in-Err-Refused.ensures
