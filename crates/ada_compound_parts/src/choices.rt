@@ -1,7 +1,7 @@
 //! The choices of a case statement (5.4).
 
 ghost use Rattle.std.specs.Prelude.{◌<◌, ◌≤◌, ◌-◌, IfOk, map, length};
-ghost use Rattle.lawful_reader.specs.Readers.{fronted};
+ghost use Rattle.ada_expr_parser.specs.readers.Readers.{fronted};
 ghost use Rattle.ada_tree.specs.PlainStmt.{plain_choice};
 ghost use Rattle.ada_lexer.specs.declared.symbols.Symbol.TheVariants as key;
 ghost use Rattle.ada_expr_parser.specs.Parts as parts;

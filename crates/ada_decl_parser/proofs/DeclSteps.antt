@@ -1,6 +1,6 @@
 -- How the pieces of declarations that the code reads fit together.
 use Rattle.std.proofs.Common.{◌≡◌, ℕ, ◌<◌, List, [], ◌∷◌, Option, Some, None, length, get_or, refl, sym, ap, subst, arith}
-use Rattle.lawful_reader.specs.Readers.{Answer, Found, Fault, Reader, pure, go_on, bind, on, on_token, token, fronted}
+use Rattle.ada_expr_parser.specs.readers.Readers.{Answer, Found, Fault, Reader, pure, go_on, bind, on, on_token, token, fronted}
 use Rattle.ada_tree.specs.declared.naming.Word.{Word}
 use Rattle.ada_tree.specs.PlainDecl.{PDecl}
 use Rattle.ada_lexer.specs.declared.symbols.Symbol.TheVariants as key

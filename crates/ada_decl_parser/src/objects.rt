@@ -2,7 +2,7 @@
 //! stand below the root of each expression.
 
 ghost use Rattle.std.specs.Prelude.{◌<◌, IfOk, option_map, length};
-ghost use Rattle.lawful_reader.specs.Readers.{bind, token};
+ghost use Rattle.ada_expr_parser.specs.readers.Readers.{bind, token};
 ghost use Rattle.ada_tree.specs.PlainExpr.{plain_expr};
 ghost use Rattle.ada_tree.specs.PlainDecl.{plain_decl, plain_shape, plain_init, DNumber, DObject, DException};
 ghost use Rattle.ada_lexer.specs.declared.symbols.Symbol.TheVariants as key;

@@ -2,7 +2,7 @@
 //! below the root of each expression.
 
 ghost use Rattle.std.specs.Prelude.{◌<◌, codes, IfOk, length};
-ghost use Rattle.lawful_reader.specs.Readers.{bind, token};
+ghost use Rattle.ada_expr_parser.specs.readers.Readers.{bind, token};
 ghost use Rattle.ada_tree.specs.PlainDecl.{plain_decl, DEnumeration, DArray, DIntIo};
 ghost use Rattle.ada_lexer.specs.declared.symbols.Symbol.TheVariants as key;
 ghost use Rattle.ada_expr_parser.specs.Tests as tests;

@@ -1,6 +1,6 @@
 -- How a chain goes on, as the code reads it.
 use Rattle.std.proofs.Common.{◌≡◌, ℕ, zero, suc, ◌+◌, ◌-◌, ◌<◌, ◌≤◌, Bool, true, false, cond, nat_le, List, [], ◌∷◌, max, length, take, drop, get_or, Option, Some, None, is_some, Result, refl, sym, ap, ◌∙◌, arith}
-use Rattle.lawful_reader.specs.Readers.{Answer, Found, Fault, Reader, go_on, bind, on_token, refuse, too_deep, chain_in}
+use Rattle.ada_expr_parser.specs.readers.Readers.{Answer, Found, Fault, Reader, go_on, bind, on_token, refuse, too_deep, chain_in}
 use Rattle.ada_tree.specs.declared.expressions.BinaryOp.{BinaryOp}
 use Rattle.ada_tree.specs.PlainExpr.{PExpr}
 use Rattle.ada_expr_parser.specs.declared.items.Item.{Item}

@@ -1,6 +1,6 @@
 -- How what the code's readers answer fits together.
 use Rattle.std.proofs.Common.{◌≡◌, ℕ, zero, suc, ◌+◌, ◌-◌, ◌<◌, ◌≤◌, List, Result, refl, arith}
-use Rattle.lawful_reader.specs.Readers.{Answer, Found, Fault, Reader, go_on, chain, chain_in}
+use Rattle.ada_expr_parser.specs.readers.Readers.{Answer, Found, Fault, Reader, go_on, chain, chain_in}
 use Rattle.ada_tree.specs.PlainExpr.{PExpr}
 use Rattle.ada_expr_parser.specs.declared.items.Item.{Item}
 use Rattle.ada_expr_parser.specs.declared.errors.ParseError.{ParseError}

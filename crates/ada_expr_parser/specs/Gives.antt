@@ -1,6 +1,6 @@
 -- What a function of the code answered is what a reader of lists gives, unless memory ran out.
 use Rattle.std.specs.Prelude.{◌≡◌, ℕ, Bool, true, false, List, [], ◌∷◌, Result, Ok, Err}
-use Rattle.lawful_reader.specs.Readers.{Answer, Found, Fault}
+use Rattle.ada_expr_parser.specs.readers.Readers.{Answer, Found, Fault}
 use Rattle.ada_expr_parser.specs.declared.items.Item.{Item}
 use Rattle.ada_expr_parser.specs.declared.errors.ParseError.{ParseError}
 use Rattle.ada_expr_parser.specs.declared.errors.ParseError.TheVariants as errors

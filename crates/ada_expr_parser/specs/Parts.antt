@@ -1,6 +1,6 @@
 -- How what is built of expressions is read: ranges, variables and components, entry calls and choices.
 use Rattle.std.specs.Prelude.{ℕ, ◌+◌, nat_le, Bool, Option, Some, None, List, ◌∷◌, is_some, if◌then◌else◌}
-use Rattle.lawful_reader.specs.Readers.{Reader, pure, refuse, bind, on, token, below, items, chain_in}
+use Rattle.ada_expr_parser.specs.readers.Readers.{Reader, pure, refuse, bind, on, token, below, items, chain_in}
 use Rattle.ada_tree.specs.declared.naming.Word.{Word}
 use Rattle.ada_tree.specs.PlainExpr.{PExpr, EName, PBounds, PSubind, PDrange, RGiven, RMarked}
 use Rattle.ada_tree.specs.PlainStmt.{PTarget, PCallee, PArgs, PCall, PChoice}

@@ -1,6 +1,6 @@
 -- How expressions are read: from left to right, by the next item. The depth is how many levels may stand below the root, and inner reads one level deeper.
 use Rattle.std.specs.Prelude.{ℕ, zero, suc, Bool, false, Option, Some, None, is_some, if◌then◌else◌}
-use Rattle.lawful_reader.specs.Readers.{Reader, pure, refuse, bind, on, token, below, Operators, chain, chain_in}
+use Rattle.ada_expr_parser.specs.readers.Readers.{Reader, pure, refuse, bind, on, token, below, Operators, chain, chain_in}
 use Rattle.ada_tree.specs.declared.naming.Span.{Span}
 use Rattle.ada_tree.specs.declared.naming.Word.{Word}
 use Rattle.ada_tree.specs.declared.expressions.BinaryOp.{BinaryOp}

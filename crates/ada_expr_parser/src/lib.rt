@@ -8,6 +8,7 @@ mod levels;
 mod nodes;
 mod operators;
 mod ranges_and_calls;
+pub mod readers;
 mod reading;
 
 pub use ada_lexer::Symbol;

@@ -1,7 +1,7 @@
 //! What the next item is, and which operator it begins.
 
 ghost use Rattle.std.specs.Prelude.{◌≡◌, ◌<◌, ◌≤◌, IfOk, length};
-ghost use Rattle.lawful_reader.specs.Readers.{token};
+ghost use Rattle.ada_expr_parser.specs.readers.Readers.{token};
 ghost use Rattle.ada_tree.specs.PlainExpr.{plain_expr};
 ghost use Rattle.ada_expr_parser.specs.Tests as tests;
 ghost use Rattle.ada_expr_parser.specs.Trees as trees;

@@ -2,7 +2,7 @@
 //! levels may stand below the statement or the range that it reads, and gives the tree and what stands behind it.
 
 ghost use Rattle.std.specs.Prelude.{◌≡◌, ◌<◌, ◌≤◌, [], ◌∷◌, ◌++◌, nat_le, IfOk, IfErr, OnOk, map, length, option_map};
-ghost use Rattle.lawful_reader.specs.Readers.{fronted};
+ghost use Rattle.ada_expr_parser.specs.readers.Readers.{fronted};
 ghost use Rattle.ada_tree.specs.PlainExpr.{plain_expr, plain_bounds, plain_subind, plain_drange};
 ghost use Rattle.ada_tree.specs.PlainStmt.{plain_target, plain_callee, plain_args, plain_call, plain_choice};
 ghost use Rattle.ada_expr_parser.specs.Trees.{levels};

@@ -2,7 +2,7 @@
 //! what it reads, and gives the tree, how many do, and what stands behind it.
 
 ghost use Rattle.std.specs.Prelude.{◌≡◌, ◌<◌, ◌≤◌, ◌+◌, ◌-◌, ℕ, IfOk, length};
-ghost use Rattle.lawful_reader.specs.Readers.{chain_in};
+ghost use Rattle.ada_expr_parser.specs.readers.Readers.{chain_in};
 ghost use Rattle.ada_tree.specs.PlainExpr.{plain_expr};
 ghost use Rattle.ada_expr_parser.specs.Tests as tests;
 ghost use Rattle.ada_expr_parser.specs.Trees.{levels};

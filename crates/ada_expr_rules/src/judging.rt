@@ -20,9 +20,9 @@ use crate::nodes::{
 };
 use ada_scopes::readings::{self, Reading, read};
 use ada_scopes::scope::Scope;
+use ada_scopes::values::operations::{apply, apply_one};
+use ada_scopes::values::static_values::{attribute_value, bound_value};
 use ada_static_rules::refusals::{Refusal, Rule, first, refuse};
-use ada_static_values::operations::{apply, apply_one};
-use ada_static_values::static_values::{attribute_value, bound_value};
 use ada_tree::{BinaryOp, Expr, ExprKind, NameId, Span, UnaryOp, Word};
 
 /// What a walk of an expression tells: its kind, its value where it is static (or the place of the operation that raises), the first operation of its largest static parts that raises, and the first refusal of its parts.

@@ -1,10 +1,10 @@
 -- The law of a reader that goes on where some tokens have been read: what they begin is read by it as if they stood before.
 use Rattle.std.proofs.Common.{◌≡◌, ℕ, ◌≤◌, Bool, true, ◌⊎◌, inl, inr, ⊎_elim, List, [], ◌∷◌, ◌++◌, refl, sym, ap, ◌∙◌, subst}
 use Rattle.std.proofs.lemmas.List.{append_assoc, append_cancel_right}
-use Rattle.lawful_reader.specs.Readers.{Found, Fault, Reader}
-use Rattle.lawful_reader.specs.Grammars.{Texts, Begins, first_of}
-use Rattle.lawful_reader.specs.Lawful.{Lawful}
-use Rattle.lawful_reader.proofs.Basics.{not_both, found_rest, not_empty}
+use Rattle.ada_expr_parser.specs.readers.Readers.{Found, Fault, Reader}
+use Rattle.ada_expr_parser.specs.readers.Grammars.{Texts, Begins, first_of}
+use Rattle.ada_expr_parser.specs.readers.Lawful.{Lawful}
+use Rattle.ada_expr_parser.proofs.readers.Basics.{not_both, found_rest, not_empty}
 
 abbrev tail_of : {K : Type 0} → List K → List K
 tail_of [] = []

@@ -2,14 +2,14 @@
 use Rattle.std.proofs.Common.{◌≡◌, ℕ, suc, true, false, ◌⊎◌, inl, inr, ⊎_elim, List, [], ◌∷◌, ◌++◌, Option, Some, None, refl, sym, ap, ◌∙◌, subst}
 use Rattle.std.specs.Prelude.{is_some, not, ◌||◌}
 use Rattle.std.proofs.lemmas.List.{append_assoc}
-use Rattle.lawful_reader.specs.Readers.{Reader, Found, Fault, bind, on}
-use Rattle.lawful_reader.specs.Grammars.{Texts, Is, One, Then, Or, first_of, Starts}
-use Rattle.lawful_reader.specs.Lawful.{Lawful, IsYes, IsNo, Anything}
-use Rattle.lawful_reader.proofs.Basics.{not_both, found_rest, not_empty, tested}
-use Rattle.lawful_reader.proofs.Binding.{law_pure}
-use Rattle.lawful_reader.proofs.Choosing.{law_on}
-use Rattle.lawful_reader.proofs.Looking.{decided, law_look}
-use Rattle.lawful_reader.proofs.Fitting.{starts_is, law_fit}
+use Rattle.ada_expr_parser.specs.readers.Readers.{Reader, Found, Fault, bind, on}
+use Rattle.ada_expr_parser.specs.readers.Grammars.{Texts, Is, One, Then, Or, first_of, Starts}
+use Rattle.ada_expr_parser.specs.readers.Lawful.{Lawful, IsYes, IsNo, Anything}
+use Rattle.ada_expr_parser.proofs.readers.Basics.{not_both, found_rest, not_empty, tested}
+use Rattle.ada_expr_parser.proofs.readers.Binding.{law_pure}
+use Rattle.ada_expr_parser.proofs.readers.Choosing.{law_on}
+use Rattle.ada_expr_parser.proofs.readers.Looking.{decided, law_look}
+use Rattle.ada_expr_parser.proofs.readers.Fitting.{starts_is, law_fit}
 use Rattle.ada_tree.specs.declared.naming.Span.{Span}
 use Rattle.ada_tree.specs.declared.naming.Word.{Word}
 use Rattle.ada_tree.specs.PlainExpr.{PDrange, RMarked}

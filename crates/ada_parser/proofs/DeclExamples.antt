@@ -1,6 +1,6 @@
 -- Small declarations by which their readers can be tried.
 use Rattle.std.proofs.Common.{◌≡◌, ℕ, ◌+◌, true, false, None, Some, List, [], ◌∷◌, refl}
-use Rattle.lawful_reader.specs.Readers.{Found, Fault}
+use Rattle.ada_expr_parser.specs.readers.Readers.{Found, Fault}
 use Rattle.ada_tree.specs.NameList.{predefined}
 use Rattle.ada_tree.specs.declared.naming.Span.{Span}
 use Rattle.ada_tree.specs.declared.naming.Word.{Word}

@@ -2,14 +2,14 @@
 use Rattle.std.proofs.Common.{◌≡◌, ℕ, suc, ◌+◌, ◌≤◌, true, false, true≢false, ◌⊎◌, inl, inr, List, [], ◌∷◌, ◌++◌, length, Some, None, refl, sym, ap, ◌∙◌, subst, arith}
 use Rattle.std.specs.Prelude.{is_some, not}
 use Rattle.std.proofs.lemmas.List.{append_assoc}
-use Rattle.lawful_reader.specs.Readers.{Reader, Fault, pure, bind, on, token}
-use Rattle.lawful_reader.specs.Grammars.{Texts, One, Then, Or, Begins, first_of, Starts}
-use Rattle.lawful_reader.specs.Lawful.{Careful, Lawful, IsNo, Anything}
-use Rattle.lawful_reader.proofs.Basics.{not_both, not_empty, tested}
-use Rattle.lawful_reader.proofs.Binding.{careful_bind}
-use Rattle.lawful_reader.proofs.Choosing.{law_on}
-use Rattle.lawful_reader.proofs.Looking.{careful_look}
-use Rattle.lawful_reader.proofs.Fitting.{law_fit}
+use Rattle.ada_expr_parser.specs.readers.Readers.{Reader, Fault, pure, bind, on, token}
+use Rattle.ada_expr_parser.specs.readers.Grammars.{Texts, One, Then, Or, Begins, first_of, Starts}
+use Rattle.ada_expr_parser.specs.readers.Lawful.{Careful, Lawful, IsNo, Anything}
+use Rattle.ada_expr_parser.proofs.readers.Basics.{not_both, not_empty, tested}
+use Rattle.ada_expr_parser.proofs.readers.Binding.{careful_bind}
+use Rattle.ada_expr_parser.proofs.readers.Choosing.{law_on}
+use Rattle.ada_expr_parser.proofs.readers.Looking.{careful_look}
+use Rattle.ada_expr_parser.proofs.readers.Fitting.{law_fit}
 use Rattle.ada_tree.specs.declared.naming.Span.{Span}
 use Rattle.ada_tree.specs.PlainExpr.{PExpr, EInteger, EName, EIndex, EAttribute, EAttributeOf, EParen, EUnary, EBinary, PSubind, PDrange}
 use Rattle.ada_tree.specs.PlainDecl.{PShape, OPlain, OArray, PInit, IOne, IList, IOthers}

@@ -1,14 +1,14 @@
 -- The laws of task bodies and of all declarations, when those of statements hold (3.9, 9.1).
 use Rattle.std.proofs.Common.{◌≡◌, ℕ, suc, Bool, true, false, true≢false, List, [], ◌∷◌, Some, None, refl, sym, ap}
 use Rattle.std.specs.Prelude.{is_some, ◌||◌}
-use Rattle.lawful_reader.specs.Readers.{refuse, on}
-use Rattle.lawful_reader.specs.Grammars.{Texts, Never, One, Then, Or, Many, first_of, Opens}
-use Rattle.lawful_reader.specs.Lawful.{Lawful, IsPassed, Anything}
-use Rattle.lawful_reader.proofs.Binding.{law_then}
-use Rattle.lawful_reader.proofs.Choosing.{law_on, careful_refuse}
-use Rattle.lawful_reader.proofs.Listing.{law_items}
-use Rattle.lawful_reader.proofs.Deepening.{law_raised}
-use Rattle.lawful_reader.proofs.Fitting.{starts_or, starts_never, starts_token, law_fit}
+use Rattle.ada_expr_parser.specs.readers.Readers.{refuse, on}
+use Rattle.ada_expr_parser.specs.readers.Grammars.{Texts, Never, One, Then, Or, Many, first_of, Opens}
+use Rattle.ada_expr_parser.specs.readers.Lawful.{Lawful, IsPassed, Anything}
+use Rattle.ada_expr_parser.proofs.readers.Binding.{law_then}
+use Rattle.ada_expr_parser.proofs.readers.Choosing.{law_on, careful_refuse}
+use Rattle.ada_expr_parser.proofs.readers.Listing.{law_items}
+use Rattle.ada_expr_parser.proofs.readers.Deepening.{law_raised}
+use Rattle.ada_expr_parser.proofs.readers.Fitting.{starts_or, starts_never, starts_token, law_fit}
 use Rattle.ada_tree.specs.declared.naming.Span.{Span}
 use Rattle.ada_tree.specs.declared.naming.Word.{Word}
 use Rattle.ada_tree.specs.PlainExpr.{PExpr}

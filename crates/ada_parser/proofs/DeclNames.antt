@@ -1,11 +1,11 @@
 -- The laws of declarations that begin with names: numbers, objects and exceptions (3.2, 11.1).
 use Rattle.std.proofs.Common.{◌≡◌, ℕ, suc, Bool, true, false, inl, inr, List, [], ◌∷◌, ◌++◌, Option, Some, None, refl, sym, ap, ◌∙◌, subst}
-use Rattle.lawful_reader.specs.Readers.{Reader, bind, on}
-use Rattle.lawful_reader.specs.Grammars.{Texts, One, Then, Or, first_of, Starts}
-use Rattle.lawful_reader.specs.Lawful.{Lawful, IsPassed, Anything}
-use Rattle.lawful_reader.proofs.Binding.{law_bind, law_then}
-use Rattle.lawful_reader.proofs.Choosing.{law_on}
-use Rattle.lawful_reader.proofs.Fitting.{starts_or, starts_token, first_append, law_fit}
+use Rattle.ada_expr_parser.specs.readers.Readers.{Reader, bind, on}
+use Rattle.ada_expr_parser.specs.readers.Grammars.{Texts, One, Then, Or, first_of, Starts}
+use Rattle.ada_expr_parser.specs.readers.Lawful.{Lawful, IsPassed, Anything}
+use Rattle.ada_expr_parser.proofs.readers.Binding.{law_bind, law_then}
+use Rattle.ada_expr_parser.proofs.readers.Choosing.{law_on}
+use Rattle.ada_expr_parser.proofs.readers.Fitting.{starts_or, starts_token, first_append, law_fit}
 use Rattle.ada_tree.specs.declared.naming.Span.{Span}
 use Rattle.ada_tree.specs.declared.naming.Word.{Word}
 use Rattle.ada_tree.specs.PlainExpr.{PExpr}

@@ -1,12 +1,12 @@
 -- The laws of tasks, their bodies, and all declarations (3.9, 9.1).
 use Rattle.std.proofs.Common.{◌≡◌, ℕ, suc, Bool, true, false, inl, inr, ⊎_elim, List, [], ◌∷◌, ◌++◌, None, refl, sym, ap, ◌∙◌, subst}
-use Rattle.lawful_reader.specs.Readers.{items}
-use Rattle.lawful_reader.specs.Grammars.{Texts, Never, Is, One, Then, Or, Many, Opens}
-use Rattle.lawful_reader.specs.Lawful.{Lawful, Anything}
-use Rattle.lawful_reader.proofs.Binding.{law_pure}
-use Rattle.lawful_reader.proofs.Choosing.{law_on, careful_refuse}
-use Rattle.lawful_reader.proofs.Listing.{law_items}
-use Rattle.lawful_reader.proofs.Fitting.{starts_or, starts_never, starts_token, law_fit}
+use Rattle.ada_expr_parser.specs.readers.Readers.{items}
+use Rattle.ada_expr_parser.specs.readers.Grammars.{Texts, Never, Is, One, Then, Or, Many, Opens}
+use Rattle.ada_expr_parser.specs.readers.Lawful.{Lawful, Anything}
+use Rattle.ada_expr_parser.proofs.readers.Binding.{law_pure}
+use Rattle.ada_expr_parser.proofs.readers.Choosing.{law_on, careful_refuse}
+use Rattle.ada_expr_parser.proofs.readers.Listing.{law_items}
+use Rattle.ada_expr_parser.proofs.readers.Fitting.{starts_or, starts_never, starts_token, law_fit}
 use Rattle.ada_tree.specs.declared.naming.Span.{Span}
 use Rattle.ada_tree.specs.declared.naming.Word.{Word}
 use Rattle.ada_tree.specs.PlainExpr.{PExpr}

@@ -2,13 +2,13 @@
 use Rattle.std.proofs.Common.{◌≡◌, ℕ, suc, inl, inr, List, [], ◌∷◌, ◌++◌, Option, Some, None, refl, sym, ap, ◌∙◌, subst, codes}
 use Rattle.std.specs.Prelude.{◌==◌, if◌then◌else◌}
 use Rattle.std.proofs.lemmas.List.{append_assoc}
-use Rattle.lawful_reader.specs.Readers.{Reader, bind, token}
-use Rattle.lawful_reader.specs.Grammars.{Texts, Never, One, Then, Or}
-use Rattle.lawful_reader.specs.Lawful.{Lawful, IsPassed, Anything}
-use Rattle.lawful_reader.proofs.Binding.{law_then}
-use Rattle.lawful_reader.proofs.Choosing.{law_on, careful_refuse}
-use Rattle.lawful_reader.proofs.Listing.{law_token}
-use Rattle.lawful_reader.proofs.Fitting.{starts_never, starts_or, starts_token, law_fit}
+use Rattle.ada_expr_parser.specs.readers.Readers.{Reader, bind, token}
+use Rattle.ada_expr_parser.specs.readers.Grammars.{Texts, Never, One, Then, Or}
+use Rattle.ada_expr_parser.specs.readers.Lawful.{Lawful, IsPassed, Anything}
+use Rattle.ada_expr_parser.proofs.readers.Binding.{law_then}
+use Rattle.ada_expr_parser.proofs.readers.Choosing.{law_on, careful_refuse}
+use Rattle.ada_expr_parser.proofs.readers.Listing.{law_token}
+use Rattle.ada_expr_parser.proofs.readers.Fitting.{starts_never, starts_or, starts_token, law_fit}
 use Rattle.ada_tree.specs.NameList.{predefined}
 use Rattle.ada_tree.specs.declared.naming.Span.{Span}
 use Rattle.ada_tree.specs.declared.naming.Word.{Word}

@@ -1,6 +1,6 @@
 -- How the ends of units are read, with what their trees are made of.
 use Rattle.std.proofs.Common.{◌≡◌, ℕ, List, refl, ap, ◌∙◌}
-use Rattle.lawful_reader.specs.Readers.{Reader, pure, go_on, bind, on, token}
+use Rattle.ada_expr_parser.specs.readers.Readers.{Reader, pure, go_on, bind, on, token}
 use Rattle.ada_tree.specs.declared.naming.Span.{Span}
 use Rattle.ada_tree.specs.declared.naming.Word.{Word}
 use Rattle.ada_tree.specs.PlainStmt.{PBody}

@@ -1,6 +1,6 @@
 -- What the answer for the items of a text says, as the code has them: from the tokens of the text, their items and its names.
 use Rattle.std.proofs.Common.{◌≡◌, ℕ, true, false, true≢false, List, sym, ap, subst}
-use Rattle.lawful_reader.specs.Readers.{Answer, Found, Fault}
+use Rattle.ada_expr_parser.specs.readers.Readers.{Answer, Found, Fault}
 use Rattle.ada_lexer.specs.declared.kinds.Token.{Token}
 use Rattle.ada_lexer.specs.declared.errors.LexError.{LexError}
 use Rattle.ada_lexer.specs.Split.{Splits, HasFirstFault}

@@ -1,6 +1,6 @@
 -- The faults of a reader of whole texts are those that the definitions of this crate name.
 use Rattle.std.proofs.Common.{◌≡◌, ℕ, List, ◌∷◌, ◌++◌, refl, subst}
-use Rattle.lawful_reader.specs.Exactness.{IsSyntax, IsTooDeep}
+use Rattle.ada_expr_parser.specs.readers.Exactness.{IsSyntax, IsTooDeep}
 use Rattle.ada_expr_parser.specs.declared.items.Item.{Item}
 use Rattle.ada_phrase_parser.specs.Spelling.{Source}
 use Rattle.ada_parser.specs.Reads.{deepest, WholeTexts, HasItems, HasItemAt, SyntaxAt, TooDeepAt}

@@ -1,13 +1,13 @@
 -- The laws of formal parts (6.1).
 use Rattle.std.proofs.Common.{◌≡◌, ℕ, inl, inr, List, [], ◌∷◌, ◌++◌, None, refl, sym, ap, ◌∙◌, subst}
 use Rattle.std.proofs.lemmas.List.{append-nil, append_assoc}
-use Rattle.lawful_reader.specs.Readers.{pure, bind, on, token}
-use Rattle.lawful_reader.specs.Grammars.{Texts, Is, One, Then, Or, first_of, Starts}
-use Rattle.lawful_reader.specs.Lawful.{Lawful, IsPassed, Anything}
-use Rattle.lawful_reader.proofs.Basics.{not_empty}
-use Rattle.lawful_reader.proofs.Binding.{law_pure, law_then}
-use Rattle.lawful_reader.proofs.Choosing.{law_on}
-use Rattle.lawful_reader.proofs.Fitting.{starts_is, starts_or, starts_token, law_fit}
+use Rattle.ada_expr_parser.specs.readers.Readers.{pure, bind, on, token}
+use Rattle.ada_expr_parser.specs.readers.Grammars.{Texts, Is, One, Then, Or, first_of, Starts}
+use Rattle.ada_expr_parser.specs.readers.Lawful.{Lawful, IsPassed, Anything}
+use Rattle.ada_expr_parser.proofs.readers.Basics.{not_empty}
+use Rattle.ada_expr_parser.proofs.readers.Binding.{law_pure, law_then}
+use Rattle.ada_expr_parser.proofs.readers.Choosing.{law_on}
+use Rattle.ada_expr_parser.proofs.readers.Fitting.{starts_is, starts_or, starts_token, law_fit}
 use Rattle.ada_tree.specs.declared.naming.Span.{Span}
 use Rattle.ada_tree.specs.declared.naming.Word.{Word}
 use Rattle.ada_tree.specs.declared.statements.ParMode.{ParMode}

@@ -19,14 +19,14 @@ use Rattle.ada_expr_parser.specs.Parts.{expression}
 use Rattle.ada_phrase_parser.specs.Spelling.{Spelling, ◌▷◌, May, Key, Again}
 use Rattle.ada_phrase_parser.specs.Phrases.{Expression, NestedExpr, EndOf}
 use Rattle.ada_phrase_parser.specs.Reading.{in_deeper, operand, again_if, again, end_of}
-use Rattle.lawful_reader.specs.Readers.{Reader, Fault, bind, look, refuse}
-use Rattle.lawful_reader.specs.Grammars.{Texts, Never, One, Then, Or, Below, Begins, Starts}
-use Rattle.lawful_reader.specs.Lawful.{Careful, Lawful}
-use Rattle.lawful_reader.proofs.Binding.{careful_bind}
-use Rattle.lawful_reader.proofs.Choosing.{careful_refuse, law_on}
-use Rattle.lawful_reader.proofs.Deepening.{law_shifted}
-use Rattle.lawful_reader.proofs.Looking.{decided, careful_look, too_deep_where}
-use Rattle.lawful_reader.proofs.Fitting.{starts_never, law_fit, careful_fit, careful_same}
+use Rattle.ada_expr_parser.specs.readers.Readers.{Reader, Fault, bind, look, refuse}
+use Rattle.ada_expr_parser.specs.readers.Grammars.{Texts, Never, One, Then, Or, Below, Begins, Starts}
+use Rattle.ada_expr_parser.specs.readers.Lawful.{Careful, Lawful}
+use Rattle.ada_expr_parser.proofs.readers.Binding.{careful_bind}
+use Rattle.ada_expr_parser.proofs.readers.Choosing.{careful_refuse, law_on}
+use Rattle.ada_expr_parser.proofs.readers.Deepening.{law_shifted}
+use Rattle.ada_expr_parser.proofs.readers.Looking.{decided, careful_look, too_deep_where}
+use Rattle.ada_expr_parser.proofs.readers.Fitting.{starts_never, law_fit, careful_fit, careful_same}
 use Rattle.ada_parser.specs.expression_laws.Stopping.{Ends}
 use Rattle.ada_parser.proofs.expression_laws.Tokens.{symbol_is, word_is, none_is, abs_or_not_is, plus_or_minus_is}
 use Rattle.ada_parser.proofs.expression_laws.Primaries.{no_place, unary_less}

@@ -8,12 +8,12 @@ use Rattle.ada_expr_parser.specs.declared.items.Item.{Item}
 use Rattle.ada_expr_parser.specs.Tests.{same, symbol, word}
 use Rattle.ada_expr_parser.specs.Grammar.{symbol_item, word_item}
 use Rattle.ada_phrase_parser.specs.Reading.{is_symbol}
-use Rattle.lawful_reader.specs.Readers.{Reader, on, below, refuse}
-use Rattle.lawful_reader.specs.Grammars.{Texts, Never, One, Then, Or, Below, Starts, Opens, first_of}
-use Rattle.lawful_reader.specs.Lawful.{Careful, Lawful, IsPassed, IsYes}
-use Rattle.lawful_reader.proofs.Choosing.{careful_refuse, careful_on}
-use Rattle.lawful_reader.proofs.Deepening.{careful_below}
-use Rattle.lawful_reader.proofs.Fitting.{starts_never, starts_or, starts_token}
+use Rattle.ada_expr_parser.specs.readers.Readers.{Reader, on, below, refuse}
+use Rattle.ada_expr_parser.specs.readers.Grammars.{Texts, Never, One, Then, Or, Below, Starts, Opens, first_of}
+use Rattle.ada_expr_parser.specs.readers.Lawful.{Careful, Lawful, IsPassed, IsYes}
+use Rattle.ada_expr_parser.proofs.readers.Choosing.{careful_refuse, careful_on}
+use Rattle.ada_expr_parser.proofs.readers.Deepening.{careful_below}
+use Rattle.ada_expr_parser.proofs.readers.Fitting.{starts_never, starts_or, starts_token}
 use Rattle.ada_parser.proofs.expression_laws.Tokens.{symbol_is, symbol_takes, word_is}
 use Rattle.common_lemmas.proofs.Options.{some_there}
 use Rattle.common_lemmas.proofs.Truth.{and_both}

@@ -8,7 +8,7 @@ use Rattle.ada_expr_parser.specs.declared.items.Item.{Item}
 use Rattle.ada_expr_parser.specs.Grammar.{symbol_item, word_item}
 use Rattle.ada_expr_parser.specs.Trees.{from_to}
 use Rattle.ada_phrase_parser.specs.Spelling.{Spelling, Nothing, ◌▷◌, Key, Named, Inside, last_place, IsPlaceOf, Placed}
-use Rattle.lawful_reader.specs.Grammars.{Below}
+use Rattle.ada_expr_parser.specs.readers.Grammars.{Below}
 
 abbrev pub tail_of : List Item → List Item
 tail_of [] = []

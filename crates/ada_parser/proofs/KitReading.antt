@@ -10,12 +10,12 @@ use Rattle.ada_expr_parser.specs.Tests.{symbol, word}
 use Rattle.ada_expr_parser.specs.Grammar.{symbol_item, word_item}
 use Rattle.ada_phrase_parser.specs.Spelling.{Spelling, ◌▷◌, Key, Named, Behind, Separated}
 use Rattle.ada_phrase_parser.specs.Reading.{is_symbol, key_then, last_key, closed, more_behind, separated}
-use Rattle.lawful_reader.specs.Readers.{Reader, pure, bind, token}
-use Rattle.lawful_reader.specs.Grammars.{Texts, One, Then, Many, Starts, Opens, first_of}
-use Rattle.lawful_reader.specs.Lawful.{Lawful, Anything}
-use Rattle.lawful_reader.proofs.Binding.{law_pure, law_bind, law_then}
-use Rattle.lawful_reader.proofs.Listing.{law_token, law_items}
-use Rattle.lawful_reader.proofs.Fitting.{starts_is, law_fit}
+use Rattle.ada_expr_parser.specs.readers.Readers.{Reader, pure, bind, token}
+use Rattle.ada_expr_parser.specs.readers.Grammars.{Texts, One, Then, Many, Starts, Opens, first_of}
+use Rattle.ada_expr_parser.specs.readers.Lawful.{Lawful, Anything}
+use Rattle.ada_expr_parser.proofs.readers.Binding.{law_pure, law_bind, law_then}
+use Rattle.ada_expr_parser.proofs.readers.Listing.{law_token, law_items}
+use Rattle.ada_expr_parser.proofs.readers.Fitting.{starts_is, law_fit}
 use Rattle.ada_parser.proofs.expression_laws.Tokens.{symbol_is, symbol_takes, word_is}
 use Rattle.ada_parser.proofs.expression_laws.Primaries.{no_place, some_word}
 use Rattle.ada_parser.proofs.KitPieces.{KeyAt}

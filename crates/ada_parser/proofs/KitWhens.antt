@@ -11,14 +11,14 @@ use Rattle.ada_expr_parser.specs.Grammar.{symbol_item}
 use Rattle.ada_phrase_parser.specs.Spelling.{Spelling}
 use Rattle.ada_phrase_parser.specs.Reading.{is_symbol}
 use Rattle.ada_stmt_parser.specs.inner.ReadingStatements.{Whens, with_part, no_whens, whens_in, whens}
-use Rattle.lawful_reader.specs.Readers.{Answer, Reader, Found, Fault, go_on, pure, bind, on, on_token, look, refuse}
-use Rattle.lawful_reader.specs.Grammars.{Texts, Never, Is, One, Then, Or, Begins, Starts, first_of}
-use Rattle.lawful_reader.specs.Lawful.{Careful, Lawful, IsPassed}
-use Rattle.lawful_reader.proofs.Binding.{law_pure, law_bind}
-use Rattle.lawful_reader.proofs.Choosing.{careful_refuse, law_on}
-use Rattle.lawful_reader.proofs.Basics.{not_both, found_through, found_tree, not_empty}
-use Rattle.lawful_reader.proofs.Looking.{law_look, careful_look, CarefulWhere}
-use Rattle.lawful_reader.proofs.Fitting.{starts_is, starts_never, starts_then, law_fit, careful_fit}
+use Rattle.ada_expr_parser.specs.readers.Readers.{Answer, Reader, Found, Fault, go_on, pure, bind, on, on_token, look, refuse}
+use Rattle.ada_expr_parser.specs.readers.Grammars.{Texts, Never, Is, One, Then, Or, Begins, Starts, first_of}
+use Rattle.ada_expr_parser.specs.readers.Lawful.{Careful, Lawful, IsPassed}
+use Rattle.ada_expr_parser.proofs.readers.Binding.{law_pure, law_bind}
+use Rattle.ada_expr_parser.proofs.readers.Choosing.{careful_refuse, law_on}
+use Rattle.ada_expr_parser.proofs.readers.Basics.{not_both, found_through, found_tree, not_empty}
+use Rattle.ada_expr_parser.proofs.readers.Looking.{law_look, careful_look, CarefulWhere}
+use Rattle.ada_expr_parser.proofs.readers.Fitting.{starts_is, starts_never, starts_then, law_fit, careful_fit}
 use Rattle.ada_parser.proofs.expression_laws.Plainly.{after_symbol, symbol_then}
 use Rattle.ada_parser.proofs.expression_laws.Tokens.{symbol_takes}
 use Rattle.ada_parser.proofs.expression_laws.Primaries.{no_place}

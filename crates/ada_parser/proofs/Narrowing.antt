@@ -2,13 +2,13 @@
 use Rattle.std.proofs.Common.{◌≡◌, ℕ, suc, ◌≤◌, ◌<◌, Bool, true, false, ◌⊎◌, inl, inr, ⊎_elim, List, [], ◌∷◌, ◌++◌, refl, sym, ap, ◌∙◌, subst, Option, Some, None, arith}
 use Rattle.std.proofs.Math.Nat.{le_refl}
 use Rattle.std.specs.Prelude.{not, is_some, nat_le, if◌then◌else◌}
-use Rattle.lawful_reader.specs.Readers.{Fault, Reader, on, on_token, refuse, look, too_deep}
-use Rattle.lawful_reader.specs.Grammars.{Texts, Never, One, Then, Or, Begins, first_of, Starts}
-use Rattle.lawful_reader.specs.Lawful.{Careful, Lawful, IsYes}
-use Rattle.lawful_reader.proofs.Basics.{not_empty}
-use Rattle.lawful_reader.proofs.Choosing.{careful_on, careful_refuse}
-use Rattle.lawful_reader.proofs.Fitting.{starts_never, starts_token, careful_fit, careful_same}
-use Rattle.lawful_reader.proofs.Looking.{decided, CarefulWhere, careful_look, too_deep_where}
+use Rattle.ada_expr_parser.specs.readers.Readers.{Fault, Reader, on, on_token, refuse, look, too_deep}
+use Rattle.ada_expr_parser.specs.readers.Grammars.{Texts, Never, One, Then, Or, Begins, first_of, Starts}
+use Rattle.ada_expr_parser.specs.readers.Lawful.{Careful, Lawful, IsYes}
+use Rattle.ada_expr_parser.proofs.readers.Basics.{not_empty}
+use Rattle.ada_expr_parser.proofs.readers.Choosing.{careful_on, careful_refuse}
+use Rattle.ada_expr_parser.proofs.readers.Fitting.{starts_never, starts_token, careful_fit, careful_same}
+use Rattle.ada_expr_parser.proofs.readers.Looking.{decided, CarefulWhere, careful_look, too_deep_where}
 use Rattle.common_lemmas.proofs.Numbers.{le_false, le_is_not, le_true, le_is}
 
 -- the texts that begin with a token of the test

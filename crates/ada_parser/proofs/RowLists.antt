@@ -1,7 +1,7 @@
 -- How a row of declarations goes on, as the code reads it.
 use Rattle.std.proofs.Common.{◌≡◌, ◌-◌, ◌<◌, ◌≤◌, Bool, true, false, ◌||◌, List, [], ◌∷◌, ◌++◌, length, take, drop, get_or, refl, sym, ap, subst, ◌∙◌, arith}
-use Rattle.lawful_reader.specs.Readers.{Answer, Found, Fault, Reader, fronted}
-use Rattle.lawful_reader.specs.Lawful.{Shortens}
+use Rattle.ada_expr_parser.specs.readers.Readers.{Answer, Found, Fault, Reader, fronted}
+use Rattle.ada_expr_parser.specs.readers.Lawful.{Shortens}
 use Rattle.ada_expr_parser.specs.declared.items.Item.{Item}
 use Rattle.ada_expr_parser.specs.declared.errors.ParseError.{ParseError}
 use Rattle.ada_expr_parser.specs.declared.errors.ParseError.TheVariants.{Syntax, TooDeep, Memory}

@@ -3,14 +3,14 @@ use Rattle.std.proofs.Common.{◌≡◌, ℕ, zero, suc, ◌+◌, ◌≤◌, ◌
 use Rattle.std.specs.Prelude.{if◌then◌else◌}
 use Rattle.std.proofs.Math.Nat.{le_refl}
 use Rattle.std.proofs.lemmas.List.{append_assoc, append-nil, length-append}
-use Rattle.lawful_reader.specs.Readers.{Answer, Found, Fault, Reader, pure, bind, go_on, fronted}
-use Rattle.lawful_reader.specs.Grammars.{Texts, Never, Is, Then, Or, Many, Begins, first_of, Starts}
-use Rattle.lawful_reader.specs.Lawful.{Careful, Lawful, Shortens}
-use Rattle.lawful_reader.proofs.Basics.{not_empty}
-use Rattle.lawful_reader.proofs.Binding.{law_pure, law_bind}
-use Rattle.lawful_reader.proofs.Choosing.{careful_refuse}
-use Rattle.lawful_reader.proofs.Fitting.{starts_is, starts_never, starts_then, law_fit}
-use Rattle.lawful_reader.proofs.Looking.{careful_look, law_look}
+use Rattle.ada_expr_parser.specs.readers.Readers.{Answer, Found, Fault, Reader, pure, bind, go_on, fronted}
+use Rattle.ada_expr_parser.specs.readers.Grammars.{Texts, Never, Is, Then, Or, Many, Begins, first_of, Starts}
+use Rattle.ada_expr_parser.specs.readers.Lawful.{Careful, Lawful, Shortens}
+use Rattle.ada_expr_parser.proofs.readers.Basics.{not_empty}
+use Rattle.ada_expr_parser.proofs.readers.Binding.{law_pure, law_bind}
+use Rattle.ada_expr_parser.proofs.readers.Choosing.{careful_refuse}
+use Rattle.ada_expr_parser.proofs.readers.Fitting.{starts_is, starts_never, starts_then, law_fit}
+use Rattle.ada_expr_parser.proofs.readers.Looking.{careful_look, law_look}
 use Rattle.ada_parser.specs.inner.ReadingRows.{row_in, row}
 use Rattle.ada_parser.proofs.Narrowing.{Narrow, narrow_where, narrow_starts}
 

@@ -22,15 +22,15 @@ use Rattle.ada_stmt_parser.specs.Statements.{Stmts, IsAccept}
 use Rattle.ada_phrase_parser.specs.Reading.{is_symbol, closed, goes_on_name, expression_from, in_deeper, operand, end_of, Behind, behind_index, is_formal_mark, accept_name, accept_behind}
 use Rattle.ada_stmt_parser.specs.inner.ReadingStatements.{Readers, accept_span, accept_at, stmts}
 use Rattle.ada_compound_parts.specs.inner.ReadingParts.{head_of}
-use Rattle.lawful_reader.specs.Readers.{Answer, Found, Fault, Reader, bind, pure, go_on, on, below, token}
-use Rattle.lawful_reader.specs.Grammars.{Texts, Is, One, Then, Or, Below, Begins, Starts, first_of}
-use Rattle.lawful_reader.specs.Lawful.{Careful, Lawful, Anything, IsYes, IsNo}
-use Rattle.lawful_reader.proofs.Basics.{not_empty, found_rest}
-use Rattle.lawful_reader.proofs.Binding.{law_pure}
-use Rattle.lawful_reader.proofs.Choosing.{law_on}
-use Rattle.lawful_reader.proofs.Looking.{decided, careful_look, careful_where}
-use Rattle.lawful_reader.proofs.Deepening.{law_below}
-use Rattle.lawful_reader.proofs.Fitting.{law_fit, careful_same, starts_is}
+use Rattle.ada_expr_parser.specs.readers.Readers.{Answer, Found, Fault, Reader, bind, pure, go_on, on, below, token}
+use Rattle.ada_expr_parser.specs.readers.Grammars.{Texts, Is, One, Then, Or, Below, Begins, Starts, first_of}
+use Rattle.ada_expr_parser.specs.readers.Lawful.{Careful, Lawful, Anything, IsYes, IsNo}
+use Rattle.ada_expr_parser.proofs.readers.Basics.{not_empty, found_rest}
+use Rattle.ada_expr_parser.proofs.readers.Binding.{law_pure}
+use Rattle.ada_expr_parser.proofs.readers.Choosing.{law_on}
+use Rattle.ada_expr_parser.proofs.readers.Looking.{decided, careful_look, careful_where}
+use Rattle.ada_expr_parser.proofs.readers.Deepening.{law_below}
+use Rattle.ada_expr_parser.proofs.readers.Fitting.{law_fit, careful_same, starts_is}
 use Rattle.ada_parser.specs.expression_laws.Stopping.{Ends}
 use Rattle.ada_parser.proofs.expression_laws.Tokens.{symbol_takes, word_is}
 use Rattle.ada_parser.proofs.expression_laws.Primaries.{no_place, some_word, close_ends}

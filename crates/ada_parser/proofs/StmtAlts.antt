@@ -18,12 +18,12 @@ use Rattle.ada_phrase_parser.specs.Reading.{Delayed}
 use Rattle.ada_phrase_parser.specs.Reading as reading
 use Rattle.ada_stmt_parser.specs.inner.ReadingStatements.{Readers, accept_span, accept_alt, delay_alt, alt_kind, alt_at}
 use Rattle.ada_compound_parts.specs.inner.ReadingParts.{last_span, first_of_alt}
-use Rattle.lawful_reader.specs.Readers.{bind}
-use Rattle.lawful_reader.specs.Grammars.{Texts, Never, One, Then, Or, Below, Starts}
-use Rattle.lawful_reader.specs.Lawful.{Lawful, Anything, IsPassed}
-use Rattle.lawful_reader.proofs.Binding.{law_bind}
-use Rattle.lawful_reader.proofs.Deepening.{law_below, law_raised}
-use Rattle.lawful_reader.proofs.Fitting.{law_fit, careful_fit}
+use Rattle.ada_expr_parser.specs.readers.Readers.{bind}
+use Rattle.ada_expr_parser.specs.readers.Grammars.{Texts, Never, One, Then, Or, Below, Starts}
+use Rattle.ada_expr_parser.specs.readers.Lawful.{Lawful, Anything, IsPassed}
+use Rattle.ada_expr_parser.proofs.readers.Binding.{law_bind}
+use Rattle.ada_expr_parser.proofs.readers.Deepening.{law_below, law_raised}
+use Rattle.ada_expr_parser.proofs.readers.Fitting.{law_fit, careful_fit}
 use Rattle.ada_parser.specs.expression_laws.Stopping.{Ends}
 use Rattle.ada_parser.proofs.expression_laws.Primaries.{no_place, some_word}
 use Rattle.ada_parser.proofs.expression_laws.Plainly.{after_symbol, symbol_then}

@@ -17,13 +17,13 @@ use Rattle.ada_stmt_parser.specs.Statements.{IsStmt, AnyStmts, Stmts, IsAccept, 
 use Rattle.ada_phrase_parser.specs.Reading.{is_symbol}
 use Rattle.ada_stmt_parser.specs.inner.ReadingStatements.{Readers, Whens, accept_span, whens, body_rest, block_rest, handler_part, handler_others, handlers_at}
 use Rattle.ada_compound_parts.specs.inner.ReadingParts.{stmt_span, last_span, with_others}
-use Rattle.lawful_reader.specs.Readers.{Answer, Fault, Reader, go_on, bind, pure, token, look, refuse}
-use Rattle.lawful_reader.specs.Grammars.{Texts, Is, One, Then, Or, Below, Starts, first_of}
-use Rattle.lawful_reader.specs.Lawful.{Lawful, Anything, IsPassed}
-use Rattle.lawful_reader.proofs.Basics.{not_empty}
-use Rattle.lawful_reader.proofs.Binding.{law_pure, law_bind}
-use Rattle.lawful_reader.proofs.Deepening.{law_below}
-use Rattle.lawful_reader.proofs.Fitting.{law_fit, law_stops, law_same, starts_is, starts_or, starts_token}
+use Rattle.ada_expr_parser.specs.readers.Readers.{Answer, Fault, Reader, go_on, bind, pure, token, look, refuse}
+use Rattle.ada_expr_parser.specs.readers.Grammars.{Texts, Is, One, Then, Or, Below, Starts, first_of}
+use Rattle.ada_expr_parser.specs.readers.Lawful.{Lawful, Anything, IsPassed}
+use Rattle.ada_expr_parser.proofs.readers.Basics.{not_empty}
+use Rattle.ada_expr_parser.proofs.readers.Binding.{law_pure, law_bind}
+use Rattle.ada_expr_parser.proofs.readers.Deepening.{law_below}
+use Rattle.ada_expr_parser.proofs.readers.Fitting.{law_fit, law_stops, law_same, starts_is, starts_or, starts_token}
 use Rattle.ada_parser.proofs.expression_laws.Tokens.{symbol_is}
 use Rattle.ada_parser.proofs.expression_laws.Primaries.{no_place}
 use Rattle.ada_parser.proofs.expression_laws.Plainly.{after_symbol, symbol_then}

@@ -20,9 +20,9 @@ use Rattle.ada_phrase_parser.specs.Reading.{closed}
 use Rattle.ada_phrase_parser.specs.Reading as reading
 use Rattle.ada_stmt_parser.specs.inner.ReadingStatements.{Readers, Whens, if_arm, if_rest, case_part, case_rest}
 use Rattle.ada_compound_parts.specs.inner.ReadingParts.{maybe}
-use Rattle.lawful_reader.specs.Grammars.{Texts, Starts, first_of}
-use Rattle.lawful_reader.specs.Lawful.{Lawful, Anything, IsPassed}
-use Rattle.lawful_reader.proofs.Fitting.{law_stops, first_append}
+use Rattle.ada_expr_parser.specs.readers.Grammars.{Texts, Starts, first_of}
+use Rattle.ada_expr_parser.specs.readers.Lawful.{Lawful, Anything, IsPassed}
+use Rattle.ada_expr_parser.proofs.readers.Fitting.{law_stops, first_append}
 use Rattle.ada_parser.specs.expression_laws.Stopping.{Ends, EndsChoice}
 use Rattle.ada_parser.proofs.expression_laws.Primaries.{no_place}
 use Rattle.ada_parser.proofs.expression_laws.Calling.{law_choice}

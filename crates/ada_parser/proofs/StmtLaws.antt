@@ -16,13 +16,13 @@ use Rattle.ada_stmt_parser.specs.Statements.{IsStmt}
 use Rattle.ada_phrase_parser.specs.Reading.{is_symbol}
 use Rattle.ada_stmt_parser.specs.inner.ReadingStatements.{Readers, begins_stmt, stmts, body_rest, named_rest, named_loop, select_rest, if_rest, case_rest, block_rest, while_rest, for_rest, loop_rest, simple_at, stmt_at, level_at, inner_at, readers}
 use Rattle.ada_simple_stmt_parser.specs.inner.ReadingSimple.{is_predefined, word_rest}
-use Rattle.lawful_reader.specs.Readers.{Answer, Found, Fault}
-use Rattle.lawful_reader.specs.Grammars.{Texts, Never, One, Then, Or, Below, Starts, first_of}
-use Rattle.lawful_reader.specs.Lawful.{Lawful, Anything, IsPassed, IsYes}
-use Rattle.lawful_reader.specs.Exactness.{LawfulAtEach}
-use Rattle.lawful_reader.proofs.Basics.{not_both}
-use Rattle.lawful_reader.proofs.Deepening.{law_below}
-use Rattle.lawful_reader.proofs.Fitting.{law_fit, careful_fit}
+use Rattle.ada_expr_parser.specs.readers.Readers.{Answer, Found, Fault}
+use Rattle.ada_expr_parser.specs.readers.Grammars.{Texts, Never, One, Then, Or, Below, Starts, first_of}
+use Rattle.ada_expr_parser.specs.readers.Lawful.{Lawful, Anything, IsPassed, IsYes}
+use Rattle.ada_expr_parser.specs.readers.Exactness.{LawfulAtEach}
+use Rattle.ada_expr_parser.proofs.readers.Basics.{not_both}
+use Rattle.ada_expr_parser.proofs.readers.Deepening.{law_below}
+use Rattle.ada_expr_parser.proofs.readers.Fitting.{law_fit, careful_fit}
 use Rattle.ada_parser.proofs.expression_laws.Tokens.{none_is}
 use Rattle.ada_parser.proofs.expression_laws.Primaries.{no_place}
 use Rattle.ada_parser.proofs.expression_laws.Plainly.{after_symbol, symbol_then, after_word, word_then}

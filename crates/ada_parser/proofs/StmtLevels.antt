@@ -15,12 +15,12 @@ use Rattle.ada_phrase_parser.specs.Spelling.{Source, Spelling, Nothing, ◌▷�
 use Rattle.ada_phrase_parser.specs.Phrases.{Expression}
 use Rattle.ada_stmt_parser.specs.Statements.{IsStmt, AnyStmts, Stmts, ElsePart, IsAccept, IsAlt, MoreHandlers}
 use Rattle.ada_stmt_parser.specs.inner.ReadingStatements.{Readers, begins_stmt, any_stmts, stmts, else_part}
-use Rattle.lawful_reader.specs.Grammars.{Texts, Is, One, Then, Or, Many, Some_of, Starts, Opens, first_of}
-use Rattle.lawful_reader.specs.Lawful.{Lawful, Anything}
-use Rattle.lawful_reader.proofs.Binding.{law_pure}
-use Rattle.lawful_reader.proofs.Choosing.{law_on}
-use Rattle.lawful_reader.proofs.Listing.{law_items, law_some_items}
-use Rattle.lawful_reader.proofs.Fitting.{starts_is, law_fit, law_stops}
+use Rattle.ada_expr_parser.specs.readers.Grammars.{Texts, Is, One, Then, Or, Many, Some_of, Starts, Opens, first_of}
+use Rattle.ada_expr_parser.specs.readers.Lawful.{Lawful, Anything}
+use Rattle.ada_expr_parser.proofs.readers.Binding.{law_pure}
+use Rattle.ada_expr_parser.proofs.readers.Choosing.{law_on}
+use Rattle.ada_expr_parser.proofs.readers.Listing.{law_items, law_some_items}
+use Rattle.ada_expr_parser.proofs.readers.Fitting.{starts_is, law_fit, law_stops}
 use Rattle.ada_parser.proofs.expression_laws.Tokens.{symbol_takes}
 use Rattle.ada_parser.proofs.expression_laws.Primaries.{no_place}
 use Rattle.ada_parser.proofs.expression_laws.Calling.{a_number}

@@ -19,12 +19,12 @@ use Rattle.ada_phrase_parser.specs.Reading.{again}
 use Rattle.ada_phrase_parser.specs.Reading as reading
 use Rattle.ada_stmt_parser.specs.inner.ReadingStatements.{Readers, loop_rest, while_rest, for_range, for_rest, named_loop}
 use Rattle.ada_compound_parts.specs.inner.ReadingParts.{loop_end}
-use Rattle.lawful_reader.specs.Grammars.{Texts, Never, One, Then, Or, Starts, first_of}
-use Rattle.lawful_reader.specs.Lawful.{Lawful, Anything, IsPassed}
-use Rattle.lawful_reader.proofs.Binding.{law_then}
-use Rattle.lawful_reader.proofs.Choosing.{law_on}
-use Rattle.lawful_reader.proofs.Listing.{law_token}
-use Rattle.lawful_reader.proofs.Fitting.{law_fit, careful_fit, first_append}
+use Rattle.ada_expr_parser.specs.readers.Grammars.{Texts, Never, One, Then, Or, Starts, first_of}
+use Rattle.ada_expr_parser.specs.readers.Lawful.{Lawful, Anything, IsPassed}
+use Rattle.ada_expr_parser.proofs.readers.Binding.{law_then}
+use Rattle.ada_expr_parser.proofs.readers.Choosing.{law_on}
+use Rattle.ada_expr_parser.proofs.readers.Listing.{law_token}
+use Rattle.ada_expr_parser.proofs.readers.Fitting.{law_fit, careful_fit, first_append}
 use Rattle.ada_parser.specs.expression_laws.Stopping.{Ends, EndsRange}
 use Rattle.ada_parser.proofs.expression_laws.Tokens.{symbol_takes}
 use Rattle.ada_parser.proofs.expression_laws.Primaries.{no_place, some_word}

@@ -16,12 +16,12 @@ use Rattle.ada_phrase_parser.specs.Reading.{closed, Delayed}
 use Rattle.ada_phrase_parser.specs.Reading as reading
 use Rattle.ada_stmt_parser.specs.inner.ReadingStatements as reading_stmts
 use Rattle.ada_stmt_parser.specs.inner.ReadingStatements.{Readers, timed_rest, call_rest_of, wait_rest, select_rest}
-use Rattle.lawful_reader.specs.Readers.{Answer, Found, Fault, Reader, bind, go_on, on}
-use Rattle.lawful_reader.specs.Grammars.{Texts, One, Then, Or, Starts, first_of}
-use Rattle.lawful_reader.specs.Lawful.{Lawful, Anything, IsYes, IsNo}
-use Rattle.lawful_reader.proofs.Choosing.{law_on}
-use Rattle.lawful_reader.proofs.Looking.{law_look}
-use Rattle.lawful_reader.proofs.Fitting.{law_fit, law_same}
+use Rattle.ada_expr_parser.specs.readers.Readers.{Answer, Found, Fault, Reader, bind, go_on, on}
+use Rattle.ada_expr_parser.specs.readers.Grammars.{Texts, One, Then, Or, Starts, first_of}
+use Rattle.ada_expr_parser.specs.readers.Lawful.{Lawful, Anything, IsYes, IsNo}
+use Rattle.ada_expr_parser.proofs.readers.Choosing.{law_on}
+use Rattle.ada_expr_parser.proofs.readers.Looking.{law_look}
+use Rattle.ada_expr_parser.proofs.readers.Fitting.{law_fit, law_same}
 use Rattle.ada_parser.specs.expression_laws.Stopping.{EndsTarget}
 use Rattle.ada_parser.proofs.expression_laws.Tokens.{symbol_takes}
 use Rattle.ada_parser.proofs.expression_laws.Primaries.{no_place}

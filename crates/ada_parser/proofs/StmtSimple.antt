@@ -20,13 +20,13 @@ use Rattle.ada_phrase_parser.specs.Phrases.{NestedExpr}
 use Rattle.ada_stmt_parser.specs.Statements.{Callee, IsStmt}
 use Rattle.ada_phrase_parser.specs.Reading.{closed, separated, duration_in, duration, Delayed, delayed}
 use Rattle.ada_simple_stmt_parser.specs.inner.ReadingSimple.{exit_rest}
-use Rattle.lawful_reader.specs.Readers.{Reader, pure, bind, on, token}
-use Rattle.lawful_reader.specs.Grammars.{Texts, One, Then, Or, Below, Starts, first_of}
-use Rattle.lawful_reader.specs.Lawful.{Lawful, Anything, IsPassed}
-use Rattle.lawful_reader.proofs.Choosing.{law_on}
-use Rattle.lawful_reader.proofs.Listing.{law_token}
-use Rattle.lawful_reader.proofs.Deepening.{law_below}
-use Rattle.lawful_reader.proofs.Fitting.{law_fit}
+use Rattle.ada_expr_parser.specs.readers.Readers.{Reader, pure, bind, on, token}
+use Rattle.ada_expr_parser.specs.readers.Grammars.{Texts, One, Then, Or, Below, Starts, first_of}
+use Rattle.ada_expr_parser.specs.readers.Lawful.{Lawful, Anything, IsPassed}
+use Rattle.ada_expr_parser.proofs.readers.Choosing.{law_on}
+use Rattle.ada_expr_parser.proofs.readers.Listing.{law_token}
+use Rattle.ada_expr_parser.proofs.readers.Deepening.{law_below}
+use Rattle.ada_expr_parser.proofs.readers.Fitting.{law_fit}
 use Rattle.ada_parser.specs.expression_laws.Stopping.{Ends, EndsTarget}
 use Rattle.ada_parser.proofs.expression_laws.Tokens.{symbol_is, word_is, none_is}
 use Rattle.ada_parser.proofs.expression_laws.Primaries.{no_place, some_word}

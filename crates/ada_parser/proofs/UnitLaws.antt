@@ -1,11 +1,11 @@
 -- The laws of lists of declarations and of units, when those of statements hold (3.9, 6.3, 10.1).
 use Rattle.std.proofs.Common.{◌≡◌, ℕ, suc, Bool, true, false, true≢false, inl, inr, List, [], ◌∷◌, ◌++◌, None, codes, refl, sym, ap, ◌∙◌, subst}
-use Rattle.lawful_reader.specs.Readers.{Reader}
-use Rattle.lawful_reader.specs.Grammars.{Texts, One, Then, Or, Many}
-use Rattle.lawful_reader.specs.Lawful.{Lawful, Shortens, Anything}
-use Rattle.lawful_reader.proofs.Choosing.{law_on}
-use Rattle.lawful_reader.proofs.Deepening.{law_raised}
-use Rattle.lawful_reader.proofs.Fitting.{law_fit}
+use Rattle.ada_expr_parser.specs.readers.Readers.{Reader}
+use Rattle.ada_expr_parser.specs.readers.Grammars.{Texts, One, Then, Or, Many}
+use Rattle.ada_expr_parser.specs.readers.Lawful.{Lawful, Shortens, Anything}
+use Rattle.ada_expr_parser.proofs.readers.Choosing.{law_on}
+use Rattle.ada_expr_parser.proofs.readers.Deepening.{law_raised}
+use Rattle.ada_expr_parser.proofs.readers.Fitting.{law_fit}
 use Rattle.ada_tree.specs.NameList.{predefined}
 use Rattle.ada_tree.specs.declared.naming.Span.{Span}
 use Rattle.ada_tree.specs.declared.naming.Word.{Word}

@@ -3,12 +3,12 @@ use Rattle.std.proofs.Common.{◌≡◌, ℕ, suc, Bool, true, false, true≢fal
 use Rattle.std.specs.Prelude.{if◌then◌else◌}
 use Rattle.std.specs.List.{AllZip}
 use Rattle.std.proofs.lemmas.List.{append_assoc, append-nil}
-use Rattle.lawful_reader.specs.Readers.{Answer, Found, Fault, go_on, left_at}
-use Rattle.lawful_reader.specs.Grammars.{Begins, first_of}
-use Rattle.lawful_reader.specs.Exactness.{IsSyntax, IsTooDeep, ReadsWhole}
-use Rattle.lawful_reader.specs.Lawful.{IsYes}
-use Rattle.lawful_reader.proofs.Basics.{not_empty, same_last}
-use Rattle.lawful_reader.proofs.Exactly.{reads_whole}
+use Rattle.ada_expr_parser.specs.readers.Readers.{Answer, Found, Fault, go_on, left_at}
+use Rattle.ada_expr_parser.specs.readers.Grammars.{Begins, first_of}
+use Rattle.ada_expr_parser.specs.readers.Exactness.{IsSyntax, IsTooDeep, ReadsWhole}
+use Rattle.ada_expr_parser.specs.readers.Lawful.{IsYes}
+use Rattle.ada_expr_parser.proofs.readers.Basics.{not_empty, same_last}
+use Rattle.ada_expr_parser.proofs.readers.Exactly.{reads_whole}
 use Rattle.ada_lexer.specs.declared.kinds.Token.{Token}
 use Rattle.ada_tree.specs.PlainProgram.{PProgram}
 use Rattle.ada_expr_parser.specs.declared.items.ItemKind.{ItemKind}

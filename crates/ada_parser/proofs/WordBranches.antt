@@ -1,12 +1,12 @@
 -- Readers that are asked only where the next token passes a test, as branches of a choice; and what refuses all at a depth (this project's rule).
 use Rattle.std.proofs.Common.{◌≡◌, ℕ, ◌≤◌, Bool, true, false, inl, ⊎_elim, not, List, [], ◌∷◌, refl, sym, ap, ◌∙◌}
 use Rattle.std.specs.Prelude.{if◌then◌else◌}
-use Rattle.lawful_reader.specs.Readers.{Fault, Reader, refuse, look, too_deep}
-use Rattle.lawful_reader.specs.Grammars.{Texts, Begins}
-use Rattle.lawful_reader.specs.Lawful.{Careful}
-use Rattle.lawful_reader.proofs.Choosing.{careful_refuse}
-use Rattle.lawful_reader.proofs.Looking.{decided, too_deep_where, careful_look}
-use Rattle.lawful_reader.proofs.Fitting.{starts_never, careful_same, careful_fit}
+use Rattle.ada_expr_parser.specs.readers.Readers.{Fault, Reader, refuse, look, too_deep}
+use Rattle.ada_expr_parser.specs.readers.Grammars.{Texts, Begins}
+use Rattle.ada_expr_parser.specs.readers.Lawful.{Careful}
+use Rattle.ada_expr_parser.proofs.readers.Choosing.{careful_refuse}
+use Rattle.ada_expr_parser.proofs.readers.Looking.{decided, too_deep_where, careful_look}
+use Rattle.ada_expr_parser.proofs.readers.Fitting.{starts_never, careful_same, careful_fit}
 use Rattle.ada_parser.proofs.Narrowing.{Narrow, narrow_where, narrow_starts}
 
 -- asked only there, a reader keeps the laws of the texts that begin so

@@ -13,12 +13,12 @@ use Rattle.ada_expr_parser.specs.Tests.{same, symbol, word}
 use Rattle.ada_expr_parser.specs.Trees.{from_to}
 use Rattle.ada_expr_parser.specs.Parts.{expression, callee_of}
 use Rattle.ada_expr_parser.specs.Grammar.{symbol_item, word_item, number_item, IsIndex, IsTarget}
-use Rattle.lawful_reader.specs.Readers.{bind, token}
-use Rattle.lawful_reader.specs.Grammars.{Texts, One, Then, Or, Below, Starts, first_of}
-use Rattle.lawful_reader.specs.Lawful.{Lawful, Anything, IsPassed}
-use Rattle.lawful_reader.proofs.Binding.{law_bind}
-use Rattle.lawful_reader.proofs.Deepening.{law_below}
-use Rattle.lawful_reader.proofs.Fitting.{starts_or, starts_token, starts_then}
+use Rattle.ada_expr_parser.specs.readers.Readers.{bind, token}
+use Rattle.ada_expr_parser.specs.readers.Grammars.{Texts, One, Then, Or, Below, Starts, first_of}
+use Rattle.ada_expr_parser.specs.readers.Lawful.{Lawful, Anything, IsPassed}
+use Rattle.ada_expr_parser.proofs.readers.Binding.{law_bind}
+use Rattle.ada_expr_parser.proofs.readers.Deepening.{law_below}
+use Rattle.ada_expr_parser.proofs.readers.Fitting.{starts_or, starts_token, starts_then}
 use Rattle.ada_parser.specs.expression_laws.Stopping.{EndsTarget}
 use Rattle.ada_parser.proofs.expression_laws.Tokens.{symbol_is}
 use Rattle.ada_parser.proofs.expression_laws.Primaries.{no_place}

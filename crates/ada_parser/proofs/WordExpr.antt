@@ -17,13 +17,13 @@ use Rattle.ada_expr_parser.specs.Trees.{levels, last_operator, joined}
 use Rattle.ada_expr_parser.specs.Reading.{inner, operators}
 use Rattle.ada_expr_parser.specs.Parts.{expr_behind}
 use Rattle.ada_expr_parser.specs.Grammar.{word_item, number_item, symbol_item, infix_symbol, Spells, IsExpr}
-use Rattle.lawful_reader.specs.Readers.{Found, Fault, Reader, bind, go_on, chain_in, chain_more}
-use Rattle.lawful_reader.specs.Grammars.{Texts, Then, Up_to, first_of}
-use Rattle.lawful_reader.specs.Lawful.{Lawful}
-use Rattle.lawful_reader.proofs.Basics.{not_empty}
-use Rattle.lawful_reader.proofs.Binding.{careful_bind}
-use Rattle.lawful_reader.proofs.Fitting.{first_append, law_fit}
-use Rattle.lawful_reader.proofs.Turning.{chain_deep, chain_end}
+use Rattle.ada_expr_parser.specs.readers.Readers.{Found, Fault, Reader, bind, go_on, chain_in, chain_more}
+use Rattle.ada_expr_parser.specs.readers.Grammars.{Texts, Then, Up_to, first_of}
+use Rattle.ada_expr_parser.specs.readers.Lawful.{Lawful}
+use Rattle.ada_expr_parser.proofs.readers.Basics.{not_empty}
+use Rattle.ada_expr_parser.proofs.readers.Binding.{careful_bind}
+use Rattle.ada_expr_parser.proofs.readers.Fitting.{first_append, law_fit}
+use Rattle.ada_expr_parser.proofs.readers.Turning.{chain_deep, chain_end}
 use Rattle.ada_parser.specs.expression_laws.Stopping.{Ends, EndsPrimary}
 use Rattle.ada_parser.specs.expression_laws.Laws.{first_operand}
 use Rattle.ada_parser.proofs.expression_laws.Tokens.{none_is}

@@ -2,16 +2,16 @@
 use Rattle.std.proofs.Common.{◌≡◌, ℕ, zero, suc, ◌+◌, ◌≤◌, Bool, true, false, true≢false, ◌||◌, ◌⊎◌, inl, inr, ⊎_elim, List, [], ◌∷◌, ◌++◌, Option, Some, None, refl, sym, ap, ◌∙◌, subst, arith}
 use Rattle.std.specs.Prelude.{not, ◌&&◌, is_some, if◌then◌else◌}
 use Rattle.std.proofs.Math.Nat.{le_refl}
-use Rattle.lawful_reader.specs.Readers.{Found, Fault, Reader, pure, refuse, bind, go_on, on, on_token, token, below, below_token, look}
-use Rattle.lawful_reader.specs.Grammars.{Texts, Is, One, Then, Or, Below, Raised, Up_to, Begins, Starts}
-use Rattle.lawful_reader.specs.Lawful.{Careful, Lawful, Anything, IsPassed, IsNo}
-use Rattle.lawful_reader.proofs.Basics.{not_empty}
-use Rattle.lawful_reader.proofs.Binding.{law_pure, law_then, careful_bind}
-use Rattle.lawful_reader.proofs.Choosing.{law_on}
-use Rattle.lawful_reader.proofs.Listing.{law_token}
-use Rattle.lawful_reader.proofs.Deepening.{law_shifted, law_raised, law_below}
-use Rattle.lawful_reader.proofs.Looking.{careful_where, careful_look}
-use Rattle.lawful_reader.proofs.Fitting.{starts_or, law_same}
+use Rattle.ada_expr_parser.specs.readers.Readers.{Found, Fault, Reader, pure, refuse, bind, go_on, on, on_token, token, below, below_token, look}
+use Rattle.ada_expr_parser.specs.readers.Grammars.{Texts, Is, One, Then, Or, Below, Raised, Up_to, Begins, Starts}
+use Rattle.ada_expr_parser.specs.readers.Lawful.{Careful, Lawful, Anything, IsPassed, IsNo}
+use Rattle.ada_expr_parser.proofs.readers.Basics.{not_empty}
+use Rattle.ada_expr_parser.proofs.readers.Binding.{law_pure, law_then, careful_bind}
+use Rattle.ada_expr_parser.proofs.readers.Choosing.{law_on}
+use Rattle.ada_expr_parser.proofs.readers.Listing.{law_token}
+use Rattle.ada_expr_parser.proofs.readers.Deepening.{law_shifted, law_raised, law_below}
+use Rattle.ada_expr_parser.proofs.readers.Looking.{careful_where, careful_look}
+use Rattle.ada_expr_parser.proofs.readers.Fitting.{starts_or, law_same}
 use Rattle.ada_tree.specs.declared.naming.Span.{Span}
 use Rattle.ada_tree.specs.declared.naming.Word.{Word}
 use Rattle.ada_tree.specs.PlainExpr.{PExpr, EInteger, EName}

@@ -1,7 +1,7 @@
 -- What is to be proved of the statements that begin with a name, behind that name: all of them but loops, which `:` follows (5.2, 9.5, 14.3).
 use Rattle.std.specs.Prelude.{ℕ, suc, ◌∷◌}
-use Rattle.lawful_reader.specs.Grammars.{Texts}
-use Rattle.lawful_reader.specs.Lawful.{Lawful, Anything}
+use Rattle.ada_expr_parser.specs.readers.Grammars.{Texts}
+use Rattle.ada_expr_parser.specs.readers.Lawful.{Lawful, Anything}
 use Rattle.ada_tree.specs.declared.naming.Word.{Word}
 use Rattle.ada_tree.specs.PlainStmt.{PStmt, SLoop}
 use Rattle.ada_expr_parser.specs.declared.items.Item.{Item}

@@ -16,14 +16,14 @@ use Rattle.ada_expr_parser.specs.declared.levels.Level.TheVariants.{Logical}
 use Rattle.ada_expr_parser.specs.Tests.{same, symbol, begins_in, begins_expr}
 use Rattle.ada_expr_parser.specs.Trees.{from_to}
 use Rattle.ada_expr_parser.specs.Grammar.{symbol_item, word_item, number_item, prefix_symbol, Spells, IsEnclosed}
-use Rattle.lawful_reader.specs.Readers.{Reader, pure, on}
-use Rattle.lawful_reader.specs.Grammars.{Texts, Is, One, Then, Or, Starts}
-use Rattle.lawful_reader.specs.Lawful.{Lawful, Anything, IsPassed}
-use Rattle.lawful_reader.proofs.Basics.{not_empty}
-use Rattle.lawful_reader.proofs.Binding.{law_pure, careful_bind}
-use Rattle.lawful_reader.proofs.Choosing.{law_on}
-use Rattle.lawful_reader.proofs.Looking.{careful_look}
-use Rattle.lawful_reader.proofs.Fitting.{starts_is, starts_or, starts_then, law_fit}
+use Rattle.ada_expr_parser.specs.readers.Readers.{Reader, pure, on}
+use Rattle.ada_expr_parser.specs.readers.Grammars.{Texts, Is, One, Then, Or, Starts}
+use Rattle.ada_expr_parser.specs.readers.Lawful.{Lawful, Anything, IsPassed}
+use Rattle.ada_expr_parser.proofs.readers.Basics.{not_empty}
+use Rattle.ada_expr_parser.proofs.readers.Binding.{law_pure, careful_bind}
+use Rattle.ada_expr_parser.proofs.readers.Choosing.{law_on}
+use Rattle.ada_expr_parser.proofs.readers.Looking.{careful_look}
+use Rattle.ada_expr_parser.proofs.readers.Fitting.{starts_is, starts_or, starts_then, law_fit}
 use Rattle.ada_parser.specs.expression_laws.Stopping.{Ends}
 use Rattle.ada_parser.proofs.expression_laws.Tokens.{symbol_takes, none_is}
 use Rattle.ada_parser.proofs.expression_laws.Primaries.{no_place, close_ends}

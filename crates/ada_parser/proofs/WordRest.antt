@@ -1,12 +1,12 @@
 -- The law of the statements that begin with a name, behind that name: assignments, calls, PUT, PUT_LINE, NEW_LINE and GET (5.2, 9.5, 14.3).
 use Rattle.std.proofs.Common.{◌≡◌, ℕ, zero, suc, Bool, true, false, inl, inr, ⊎_elim, List, [], ◌∷◌, ◌++◌, Option, Some, None, refl, sym, ap, ◌∙◌, subst, arith}
 use Rattle.std.specs.Prelude.{◌==◌, codes, if◌then◌else◌}
-use Rattle.lawful_reader.specs.Readers.{Reader, pure, on, on_token}
-use Rattle.lawful_reader.specs.Grammars.{Texts, Is, One, Then, Or, first_of}
-use Rattle.lawful_reader.specs.Lawful.{Lawful, Anything, IsPassed}
-use Rattle.lawful_reader.proofs.Binding.{law_pure}
-use Rattle.lawful_reader.proofs.Choosing.{law_on}
-use Rattle.lawful_reader.proofs.Fitting.{starts_is, starts_or, starts_then, law_fit, law_same}
+use Rattle.ada_expr_parser.specs.readers.Readers.{Reader, pure, on, on_token}
+use Rattle.ada_expr_parser.specs.readers.Grammars.{Texts, Is, One, Then, Or, first_of}
+use Rattle.ada_expr_parser.specs.readers.Lawful.{Lawful, Anything, IsPassed}
+use Rattle.ada_expr_parser.proofs.readers.Binding.{law_pure}
+use Rattle.ada_expr_parser.proofs.readers.Choosing.{law_on}
+use Rattle.ada_expr_parser.proofs.readers.Fitting.{starts_is, starts_or, starts_then, law_fit, law_same}
 use Rattle.ada_tree.specs.NameList.{predefined}
 use Rattle.ada_tree.specs.declared.naming.Span.{Span}
 use Rattle.ada_tree.specs.declared.naming.Word.{Word}

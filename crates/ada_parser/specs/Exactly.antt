@@ -1,6 +1,6 @@
 -- What it comes to that a text is read by the laws of its grammar (this project's rule): a text that has tokens is that of one program, or it is refused at one place, as in no grammar or as too deep, and never two of these.
 use Rattle.std.specs.Prelude.{◌≡◌, ℕ, true, false, List}
-use Rattle.lawful_reader.specs.Readers.{Answer, Found, Fault}
+use Rattle.ada_expr_parser.specs.readers.Readers.{Answer, Found, Fault}
 use Rattle.ada_tree.specs.PlainProgram.{PProgram}
 use Rattle.ada_expr_parser.specs.declared.items.Item.{Item}
 use Rattle.ada_expr_parser.specs.Gives.{place}

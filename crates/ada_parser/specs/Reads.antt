@@ -1,7 +1,7 @@
 -- What it is to read a text: its tokens, their items, and the unit that these spell (2.2, 10.1, this project's limit of nesting).
 use Rattle.std.specs.Prelude.{◌≡◌, ℕ, Bool, true, false, List, [], ◌∷◌, ◌++◌}
-use Rattle.lawful_reader.specs.Grammars.{Texts, Begins}
-use Rattle.lawful_reader.specs.Exactness.{WholeText}
+use Rattle.ada_expr_parser.specs.readers.Grammars.{Texts, Begins}
+use Rattle.ada_expr_parser.specs.readers.Exactness.{WholeText}
 use Rattle.ada_lexer.specs.declared.kinds.Token.{Token}
 use Rattle.ada_lexer.specs.Split.{Splits}
 use Rattle.ada_tree.specs.PlainProgram.{PProgram}

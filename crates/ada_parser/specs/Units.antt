@@ -1,6 +1,6 @@
 -- The grammar of a whole text: context clauses and the main procedure (6.3, 10.1). At a depth d, at most d levels stand below the root of each expression in its own declarations, and so one level more below each of its own statements (this project's rule).
 use Rattle.std.specs.Prelude.{ℕ, suc, Bool, true, false, codes}
-use Rattle.lawful_reader.specs.Grammars.{Texts}
+use Rattle.ada_expr_parser.specs.readers.Grammars.{Texts}
 use Rattle.ada_tree.specs.declared.naming.Word.{Word}
 use Rattle.ada_tree.specs.PlainStmt.{PBody}
 use Rattle.ada_tree.specs.PlainDecl.{PDecls}

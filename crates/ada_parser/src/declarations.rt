@@ -2,7 +2,7 @@
 //! declaration the id of PRIORITY.
 
 ghost use Rattle.std.specs.Prelude.{◌≡◌, ◌<◌, ◌≤◌, false, codes, IfOk, map, length};
-ghost use Rattle.lawful_reader.specs.Readers.{fronted};
+ghost use Rattle.ada_expr_parser.specs.readers.Readers.{fronted};
 ghost use Rattle.ada_tree.specs.PlainDecl.{plain_decl, decls_of};
 ghost use Rattle.ada_expr_parser.specs.Gives.{Gives};
 ghost use Rattle.ada_phrase_parser.specs.Spelling.{id_of};

@@ -2,8 +2,8 @@
 //! expression.
 
 ghost use Rattle.std.specs.Prelude.{◌≡◌, ◌<◌, ◌≤◌, IfOk, map, length};
-ghost use Rattle.lawful_reader.specs.Readers.{fronted};
-ghost use Rattle.lawful_reader.specs.Readers as lawful;
+ghost use Rattle.ada_expr_parser.specs.readers.Readers.{fronted};
+ghost use Rattle.ada_expr_parser.specs.readers.Readers as lawful;
 ghost use Rattle.ada_tree.specs.PlainDecl.{plain_decl, decls_of};
 ghost use Rattle.ada_expr_parser.specs.Gives.{Gives};
 ghost use Rattle.ada_decl_parser.specs.inner.ReadingDeclarations as declarations;

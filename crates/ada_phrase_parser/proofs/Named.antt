@@ -1,7 +1,7 @@
 -- An expression that begins with a name, and operands one level deeper.
 use Rattle.std.proofs.Common.{◌≡◌, ℕ, zero, suc, ◌-◌, ◌<◌, ◌≤◌, length, get_or, take, drop, Bool, true, false, ◌||◌, cond, is_some, List, [], ◌∷◌, Option, Some, None, refl, sym, ap, ◌∙◌, arith}
 use Rattle.std.proofs.Math.Seq.{take-length}
-use Rattle.lawful_reader.specs.Readers.{Answer, Found, Fault, Reader, pure, refuse, go_on, bind, on, on_token, token, chain_in}
+use Rattle.ada_expr_parser.specs.readers.Readers.{Answer, Found, Fault, Reader, pure, refuse, go_on, bind, on, on_token, token, chain_in}
 use Rattle.ada_tree.specs.declared.naming.Span.{Span}
 use Rattle.ada_tree.specs.declared.naming.Word.{Word}
 use Rattle.ada_tree.specs.PlainExpr.{PExpr}

@@ -1,6 +1,6 @@
 -- How pieces of statements are read: from left to right, by the next item. A depth is how many levels may stand below the statement, and where a piece says so, below the root of an expression.
 use Rattle.std.specs.Prelude.{ℕ, zero, suc, ◌==◌, Bool, ◌||◌, List, [], ◌∷◌, Option, Some, None, is_some, if◌then◌else◌}
-use Rattle.lawful_reader.specs.Readers.{Reader, pure, refuse, bind, on, token, look, too_deep, items}
+use Rattle.ada_expr_parser.specs.readers.Readers.{Reader, pure, refuse, bind, on, token, look, too_deep, items}
 use Rattle.ada_tree.specs.declared.naming.Span.{Span}
 use Rattle.ada_tree.specs.declared.naming.Word.{Word}
 use Rattle.ada_tree.specs.declared.statements.ParMode.{ParMode}

@@ -1,7 +1,7 @@
 //! Identifiers that must be these and no others.
 
 ghost use Rattle.std.specs.Prelude.{◌≡◌, ◌<◌, IfOk, is_some, length};
-ghost use Rattle.lawful_reader.specs.Readers.{token};
+ghost use Rattle.ada_expr_parser.specs.readers.Readers.{token};
 ghost use Rattle.ada_expr_parser.specs.Gives.{Gives};
 ghost use Rattle.ada_phrase_parser.specs.Reading as reading;
 

@@ -1,7 +1,7 @@
 //! Operands of statements, and what stands in the parentheses behind an entry's name (9.5).
 
 ghost use Rattle.std.specs.Prelude.{◌≡◌, ◌<◌, ◌≤◌, ◌-◌, ◌||◌, IfOk, length};
-ghost use Rattle.lawful_reader.specs.Readers.{bind, token};
+ghost use Rattle.ada_expr_parser.specs.readers.Readers.{bind, token};
 ghost use Rattle.ada_tree.specs.PlainExpr.{plain_expr};
 ghost use Rattle.ada_lexer.specs.declared.symbols.Symbol.TheVariants as key;
 ghost use Rattle.ada_expr_parser.specs.declared.items.ItemKind.TheVariants as item;

@@ -1,7 +1,7 @@
 //! Pieces of statements and declarations: durations, rows of names, formals.
 
 ghost use Rattle.std.specs.Prelude.{◌≡◌, ◌<◌, ◌≤◌, IfOk, map, length, is_some};
-ghost use Rattle.lawful_reader.specs.Readers.{on, pure, refuse, token, fronted};
+ghost use Rattle.ada_expr_parser.specs.readers.Readers.{on, pure, refuse, token, fronted};
 ghost use Rattle.ada_tree.specs.PlainStmt.{plain_formal};
 ghost use Rattle.ada_lexer.specs.declared.symbols.Symbol.TheVariants as key;
 ghost use Rattle.ada_expr_parser.specs.Tests as tests;

@@ -4,3 +4,4 @@ pub mod Denotations
 pub mod Nested
 pub mod Readings
 pub mod inner
+pub mod values

@@ -7,3 +7,4 @@ mod predefined;
 pub mod readings;
 pub mod scope;
 pub mod table;
+pub mod values;

@@ -1,7 +1,7 @@
 -- What stands behind `GET (`: a variable, or an expression that begins with a name.
 use Rattle.std.proofs.Common.{◌≡◌, ℕ, ◌-◌, ◌+◌, ◌<◌, ◌≤◌, length, get_or, take, drop, true, false, cond, is_some, List, [], ◌∷◌, Option, Some, None, refl, sym, ap, ◌∙◌, arith}
 use Rattle.std.proofs.Math.Seq.{take-length}
-use Rattle.lawful_reader.specs.Readers.{Found, Fault, Reader, pure, refuse, go_on, bind, on_token, below_token, look, token}
+use Rattle.ada_expr_parser.specs.readers.Readers.{Found, Fault, Reader, pure, refuse, go_on, bind, on_token, below_token, look, token}
 use Rattle.ada_tree.specs.declared.naming.Span.{Span}
 use Rattle.ada_tree.specs.declared.naming.Word.{Word}
 use Rattle.ada_tree.specs.PlainExpr.{PExpr, EName}

@@ -1,7 +1,7 @@
 //! Simple statements that begin with a name: assignments, entry calls, PUT, PUT_LINE, NEW_LINE and GET.
 
 ghost use Rattle.std.specs.Prelude.{◌≡◌, ◌<◌, ◌≤◌, ◌-◌, ◌+◌, ◌∷◌, [], Some, None, IfOk, IfErr, map, option_map, length};
-ghost use Rattle.lawful_reader.specs.Readers.{on, bind, pure, token, fronted};
+ghost use Rattle.ada_expr_parser.specs.readers.Readers.{on, bind, pure, token, fronted};
 ghost use Rattle.ada_tree.specs.PlainExpr.{plain_expr};
 ghost use Rattle.ada_tree.specs.PlainStmt.{plain_stmt, plain_part, plain_target, PValue, SAssign, SCall, SNewLine};
 ghost use Rattle.ada_lexer.specs.declared.symbols.Symbol.TheVariants as key;

@@ -1,7 +1,7 @@
 //! Simple statements that begin with a reserved word, behind that word.
 
 ghost use Rattle.std.specs.Prelude.{◌≡◌, ◌<◌, ◌≤◌, Some, None, IfOk, map, length};
-ghost use Rattle.lawful_reader.specs.Readers.{on, bind, pure, fronted};
+ghost use Rattle.ada_expr_parser.specs.readers.Readers.{on, bind, pure, fronted};
 ghost use Rattle.ada_tree.specs.PlainStmt.{plain_stmt, SNull, SDelay, SRaise, SAbort};
 ghost use Rattle.ada_lexer.specs.declared.symbols.Symbol.TheVariants as key;
 ghost use Rattle.ada_expr_parser.specs.Tests as tests;

@@ -1,6 +1,6 @@
 -- Alternatives and accept statements, read behind their guards and heads.
 use Rattle.std.proofs.Common.{◌≡◌, ℕ, List, Option, Some, None, refl, sym, ap, subst, ◌∙◌}
-use Rattle.lawful_reader.specs.Readers.{Found, Reader, pure, bind, go_on, token}
+use Rattle.ada_expr_parser.specs.readers.Readers.{Found, Reader, pure, bind, go_on, token}
 use Rattle.ada_tree.specs.declared.naming.Span.{Span}
 use Rattle.ada_tree.specs.declared.naming.Word.{Word}
 use Rattle.ada_tree.specs.PlainExpr.{PExpr}

@@ -1,6 +1,6 @@
 -- A body with handlers, as the code reads and builds it.
 use Rattle.std.proofs.Common.{◌≡◌, ℕ, ◌-◌, ◌<◌, ◌≤◌, true, cond, List, ◌∷◌, Some, Vec, Global, map, length, take, drop, get_or, ap, ◌∙◌}
-use Rattle.lawful_reader.specs.Readers.{Reader, Found, Fault, go_on, bind, pure, below, below_token}
+use Rattle.ada_expr_parser.specs.readers.Readers.{Reader, Found, Fault, go_on, bind, pure, below, below_token}
 use Rattle.ada_tree.specs.declared.naming.Span.{Span}
 use Rattle.ada_tree.specs.declared.statements.Stmt.{Stmt}
 use Rattle.ada_tree.specs.declared.statements.Handler.{Handler}

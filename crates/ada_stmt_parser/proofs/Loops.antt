@@ -1,7 +1,7 @@
 -- A loop from its first word on.
 use Rattle.std.proofs.Common.{◌≡◌, ℕ, ◌-◌, ◌<◌, ◌≤◌, nat_eq, Bool, true, false, ◌||◌, cond, List, [], ◌∷◌, Option, Some, None, is_some, length, take, drop, get_or, refl, ap, ◌∙◌, arith}
 use Rattle.std.proofs.lemmas.Bool.Decides.{nat_tests}
-use Rattle.lawful_reader.specs.Readers.{Fault, Reader, pure, refuse, go_on, on, below, below_token, token}
+use Rattle.ada_expr_parser.specs.readers.Readers.{Fault, Reader, pure, refuse, go_on, on, below, below_token, token}
 use Rattle.ada_tree.specs.declared.naming.Span.{Span}
 use Rattle.ada_tree.specs.declared.naming.Word.{Word}
 use Rattle.ada_tree.specs.PlainStmt.{PStmt}

@@ -1,6 +1,6 @@
 -- How what is read goes on, when a reader is cut into two that follow each other.
 use Rattle.std.proofs.Common.{◌≡◌, ℕ, ◌-◌, ◌≤◌, nat_eq, Bool, true, false, cond, List, [], ◌∷◌, Option, Some, None, is_some, Result, Ok, Err, length, get_or, refl, sym, ap, subst, ◌∙◌, arith}
-use Rattle.lawful_reader.specs.Readers.{Answer, Found, Fault, Reader, pure, refuse, go_on, on_token, on, below_token, below, look}
+use Rattle.ada_expr_parser.specs.readers.Readers.{Answer, Found, Fault, Reader, pure, refuse, go_on, on_token, on, below_token, below, look}
 use Rattle.ada_tree.specs.declared.naming.Span.{Span}
 use Rattle.ada_expr_parser.specs.declared.items.Item.{Item}
 use Rattle.ada_expr_parser.specs.declared.errors.ParseError.{ParseError}

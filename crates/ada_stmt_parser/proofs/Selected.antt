@@ -1,6 +1,6 @@
 -- Calls that are selected, read behind the call.
 use Rattle.std.proofs.Common.{◌≡◌, ℕ, Bool, true, false, cond, List, [], ◌∷◌, Some, None, is_some, length, ◌≤◌, get_or, refl, sym, ap, subst, ◌∙◌}
-use Rattle.lawful_reader.specs.Readers.{Found, Reader, pure, bind, go_on, token, look}
+use Rattle.ada_expr_parser.specs.readers.Readers.{Found, Reader, pure, bind, go_on, token, look}
 use Rattle.ada_tree.specs.declared.naming.Span.{Span}
 use Rattle.ada_tree.specs.PlainStmt.{PCall, PStmt, PStmts, SConditional, STimed}
 use Rattle.ada_lexer.specs.declared.symbols.Symbol.TheVariants as key

@@ -1,6 +1,6 @@
 -- Small statements that begin with PUT or GET, and what decides between what they may be.
 use Rattle.std.proofs.Common.{◌≡◌, ℕ, ◌+◌, true, false, Some, None, List, [], ◌∷◌, ◌++◌, refl}
-use Rattle.lawful_reader.specs.Readers.{Found, Fault}
+use Rattle.ada_expr_parser.specs.readers.Readers.{Found, Fault}
 use Rattle.ada_tree.specs.NameList.{predefined}
 use Rattle.ada_tree.specs.declared.naming.Span.{Span}
 use Rattle.ada_tree.specs.declared.naming.Word.{Word}

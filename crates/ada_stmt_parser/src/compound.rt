@@ -1,7 +1,7 @@
 //! If and case statements, behind their first word. What stands in them is one level deeper.
 
 ghost use Rattle.std.specs.Prelude.{◌<◌, ◌≤◌, ◌-◌, IfOk, map, length};
-ghost use Rattle.lawful_reader.specs.Readers.{fronted};
+ghost use Rattle.ada_expr_parser.specs.readers.Readers.{fronted};
 ghost use Rattle.ada_tree.specs.PlainStmt.{plain_stmt, plain_arm, plain_case_arm, seen};
 ghost use Rattle.ada_lexer.specs.declared.symbols.Symbol.TheVariants as key;
 ghost use Rattle.ada_expr_parser.specs.Gives.{Gives};

@@ -2,7 +2,7 @@
 
 ghost use Rattle.std.specs.Prelude.{◌<◌, ◌≤◌, ◌-◌, IfOk, map, length};
 ghost use Rattle.ada_tree.specs.PlainStmt.{plain_stmt, plain_body, plain_handler, handlers_of, body, no_handler, seen};
-ghost use Rattle.lawful_reader.specs.Readers.{below, bind, pure};
+ghost use Rattle.ada_expr_parser.specs.readers.Readers.{below, bind, pure};
 ghost use Rattle.ada_lexer.specs.declared.symbols.Symbol.TheVariants as key;
 ghost use Rattle.ada_expr_parser.specs.Tests as tests;
 ghost use Rattle.ada_expr_parser.specs.Gives.{Gives};

@@ -1,7 +1,7 @@
 //! Selective waits, conditional and timed entry calls, and accept statements (chapter 9).
 
 ghost use Rattle.std.specs.Prelude.{◌<◌, ◌≤◌, ◌-◌, IfOk, map, length};
-ghost use Rattle.lawful_reader.specs.Readers.{fronted};
+ghost use Rattle.ada_expr_parser.specs.readers.Readers.{fronted};
 ghost use Rattle.ada_tree.specs.PlainStmt.{plain_stmt, plain_alt, plain_alt_kind, plain_accept, seen, seen_maybe};
 ghost use Rattle.ada_lexer.specs.declared.symbols.Symbol.TheVariants as key;
 ghost use Rattle.ada_expr_parser.specs.Gives.{Gives};

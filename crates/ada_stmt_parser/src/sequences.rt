@@ -1,8 +1,8 @@
 //! Statements one behind the other, one level deeper than what they stand in.
 
 ghost use Rattle.std.specs.Prelude.{◌<◌, ◌≤◌, IfOk, map, length};
-ghost use Rattle.lawful_reader.specs.Readers.{fronted};
-ghost use Rattle.lawful_reader.specs.Readers as lawful;
+ghost use Rattle.ada_expr_parser.specs.readers.Readers.{fronted};
+ghost use Rattle.ada_expr_parser.specs.readers.Readers as lawful;
 ghost use Rattle.ada_tree.specs.PlainStmt.{plain_stmt, seen, seen_maybe};
 ghost use Rattle.ada_expr_parser.specs.Gives.{Gives};
 ghost use Rattle.ada_stmt_parser.specs.inner.ReadingStatements as statements;

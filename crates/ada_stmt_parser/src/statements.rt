@@ -3,7 +3,7 @@
 
 ghost use Rattle.std.specs.Prelude.{◌≡◌, ◌<◌, IfOk, length};
 ghost use Rattle.ada_tree.specs.PlainStmt.{plain_stmt};
-ghost use Rattle.lawful_reader.specs.Readers.{Found, token};
+ghost use Rattle.ada_expr_parser.specs.readers.Readers.{Found, token};
 ghost use Rattle.ada_expr_parser.specs.Tests as tests;
 ghost use Rattle.ada_expr_parser.specs.Gives.{Gives};
 ghost use Rattle.ada_stmt_parser.specs.inner.ReadingStatements as statements;

@@ -1,6 +1,6 @@
 -- How the pieces of tasks that the code reads fit together.
 use Rattle.std.proofs.Common.{◌≡◌, ℕ, ◌≤◌, false, cond, List, [], ◌∷◌, None, length, get_or, codes, refl, sym, ap, ◌∙◌, arith}
-use Rattle.lawful_reader.specs.Readers.{Found, Reader, pure, refuse, go_on, bind, on_token, token}
+use Rattle.ada_expr_parser.specs.readers.Readers.{Found, Reader, pure, refuse, go_on, bind, on_token, token}
 use Rattle.ada_tree.specs.declared.naming.Span.{Span}
 use Rattle.ada_tree.specs.declared.naming.Word.{Word}
 use Rattle.ada_tree.specs.PlainExpr.{PExpr}

@@ -1,7 +1,7 @@
 //! Entries and families of entries (9.5).
 
 ghost use Rattle.std.specs.Prelude.{◌≡◌, ◌<◌, ◌≤◌, [], None, IfOk, length};
-ghost use Rattle.lawful_reader.specs.Readers.{bind, token};
+ghost use Rattle.ada_expr_parser.specs.readers.Readers.{bind, token};
 ghost use Rattle.ada_tree.specs.PlainExpr.{plain_drange};
 ghost use Rattle.ada_tree.specs.PlainDecl.{plain_entry};
 ghost use Rattle.ada_expr_parser.specs.Tests as tests;

@@ -1,8 +1,8 @@
 //! The entries and pragmas of a task (9.1).
 
 ghost use Rattle.std.specs.Prelude.{◌≡◌, ◌<◌, ◌≤◌, codes, IfOk, map, length};
-ghost use Rattle.lawful_reader.specs.Readers.{fronted};
-ghost use Rattle.lawful_reader.specs.Readers as lawful;
+ghost use Rattle.ada_expr_parser.specs.readers.Readers.{fronted};
+ghost use Rattle.ada_expr_parser.specs.readers.Readers as lawful;
 ghost use Rattle.ada_expr_parser.specs.Gives.{Gives};
 ghost use Rattle.ada_phrase_parser.specs.Spelling.{id_of};
 ghost use Rattle.ada_task_parser.specs.inner.ReadingTasks as tasks;

@@ -5,8 +5,8 @@ ghost use Rattle.ada_tree.specs.PlainDecl.{plain_decl, plain_entry, plain_task, 
 ghost use Rattle.ada_expr_parser.specs.declared.errors.ParseError.TheVariants.{Memory};
 ghost use Rattle.ada_expr_parser.specs.Trees.{from_to};
 ghost use Rattle.ada_expr_parser.specs.Gives.{Gives};
-ghost use Rattle.lawful_reader.specs.Readers.{bind};
-ghost use Rattle.lawful_reader.specs.Readers as lawful;
+ghost use Rattle.ada_expr_parser.specs.readers.Readers.{bind};
+ghost use Rattle.ada_expr_parser.specs.readers.Readers as lawful;
 ghost use Rattle.ada_phrase_parser.specs.Spelling.{id_of};
 ghost use Rattle.ada_phrase_parser.specs.Reading as reading;
 ghost use Rattle.ada_task_parser.specs.inner.ReadingTasks as tasks;

@@ -11,8 +11,8 @@ mod types;
 mod walked_decls;
 mod written_parts;
 
+pub use ada_scopes::values::named_values::mark_of;
+pub use ada_scopes::values::static_values::{is_static, static_value};
 pub use ada_static_rules::errors::TypeError;
-pub use ada_static_values::named_values::mark_of;
-pub use ada_static_values::static_values::{is_static, static_value};
 pub use common_lemmas::division::law_of_mod;
 pub use types::types_of;

@@ -13,8 +13,8 @@ use Rattle.syn_event.specs.declared.numbering.TaskInfo.{TaskInfo}
 use Rattle.syn_event.specs.DeclaredTasks.{decl_list}
 use Rattle.syn_event.proofs.DeclLists.{listed_back}
 use Rattle.normal_model.specs.NormalTree.{greatest}
-use Rattle.abort_model.specs.Places.{places_in, places_of}
-use Rattle.abort_model.specs.Recording.{aborts_from}
+use Rattle.collect_model.specs.aborts.Places.{places_in, places_of}
+use Rattle.collect_model.specs.aborts.Recording.{aborts_from}
 use Rattle.collect_abort.specs.Branches.{abort_arm, abort_arms}
 
 -- ---- places

@@ -7,9 +7,9 @@ use Rattle.task_model.specs.Frames.{in_front}
 use Rattle.normal_model.specs.Walk.{inside_body, after_body}
 use Rattle.tree_rewriting.specs.walking.Rules.{walk_of}
 use Rattle.collect_model.specs.CollectStmts.{telling_at_end}
-use Rattle.abort_model.specs.Places.{with_place, places_in}
-use Rattle.abort_model.specs.AbortTeller.{AbortTeller}
-use Rattle.abort_model.specs.AbortStmts.{image_told, abort_rewriter, main_body, task_body}
+use Rattle.collect_model.specs.aborts.Places.{with_place, places_in}
+use Rattle.collect_model.specs.aborts.AbortTeller.{AbortTeller}
+use Rattle.collect_model.specs.aborts.AbortStmts.{image_told, abort_rewriter, main_body, task_body}
 use Rattle.collect_abort.specs.Rules.{abort_told, accept_told, call_told, choice_told, delay_told, wait_told, image, rule_of, counting_rule}
 
 image-is : (x : AbortTeller) (n : ℕ) (y : PStmt) → image x n y ≡ image_told x n y

@@ -14,11 +14,11 @@ use Rattle.task_model.specs.Setting.{Setting}
 use Rattle.normal_model.specs.Names.{id_of}
 use Rattle.normal_model.specs.NormalTree.{main_unit}
 use Rattle.collect_xform.specs.Looking.{AreTables}
-use Rattle.abort_model.specs.Names.{acceptors_text, each_text, with_recorded, with_places}
-use Rattle.abort_model.specs.Places.{most_places}
-use Rattle.abort_model.specs.AbortTeller.{AbortTeller, told_in, names_told}
-use Rattle.abort_model.specs.AbortStmts.{main_body}
-use Rattle.abort_model.specs.AbortTree.{abort_decls, abort_of, abort_tree}
+use Rattle.collect_model.specs.aborts.Names.{acceptors_text, each_text, with_recorded, with_places}
+use Rattle.collect_model.specs.aborts.Places.{most_places}
+use Rattle.collect_model.specs.aborts.AbortTeller.{AbortTeller, told_in, names_told}
+use Rattle.collect_model.specs.aborts.AbortStmts.{main_body}
+use Rattle.collect_model.specs.aborts.AbortTree.{abort_decls, abort_of, abort_tree}
 use Rattle.collect_abort.specs.declared.teller.AbortReporter.{AbortReporter}
 use Rattle.collect_abort.specs.Looked.{told_of}
 use Rattle.collect_abort.proofs.Named.{begins-collected}

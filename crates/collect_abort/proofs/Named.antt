@@ -11,9 +11,9 @@ use Rattle.normal_model.specs.NormalTree.{variables_needed}
 use Rattle.replay_model.specs.ReplayTree.{normal_setting}
 use Rattle.replay_asking.proofs.names.Places.{take-interned}
 use Rattle.collect_model.specs.Names.{added_texts, with_added}
-use Rattle.abort_model.specs.Names.{acceptors_text, each_text, taken_text, refused_text, with_places, with_recorded}
-use Rattle.abort_model.specs.Places.{most_places}
-use Rattle.abort_model.specs.AbortTree.{abort_tree}
+use Rattle.collect_model.specs.aborts.Names.{acceptors_text, each_text, taken_text, refused_text, with_places, with_recorded}
+use Rattle.collect_model.specs.aborts.Places.{most_places}
+use Rattle.collect_model.specs.aborts.AbortTree.{abort_tree}
 
 -- names still begin with some where more are interned
 begins-later : (ts us all : List (List ℕ)) → take (length ts) all ≡ ts → take (length ts) (fold interned all us) ≡ ts

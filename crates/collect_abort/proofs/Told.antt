@@ -5,8 +5,8 @@ use Rattle.normal_model.specs.RewrittenUnit.{RewrittenUnit}
 use Rattle.normal_parts.proofs.Told.{marks-is, member-is}
 use Rattle.collect_statements.specs.Looked.{mark_of}
 use Rattle.collect_xform.specs.Looking.{AreTables}
-use Rattle.abort_model.specs.Names.{acceptors_text, each_text, taken_text, refused_text}
-use Rattle.abort_model.specs.AbortTeller.{told_in, names_told}
+use Rattle.collect_model.specs.aborts.Names.{acceptors_text, each_text, taken_text, refused_text}
+use Rattle.collect_model.specs.aborts.AbortTeller.{told_in, names_told}
 use Rattle.collect_abort.specs.declared.teller.AbortReporter.{AbortReporter}
 use Rattle.collect_abort.specs.Looked.{told_of}
 

@@ -9,10 +9,10 @@ use Rattle.ada_tree.specs.declared.statements.Alt.{Alt}
 use Rattle.ada_tree.specs.declared.statements.Stmt.{Stmt}
 use Rattle.ada_tree.specs.PlainStmt.{SWait, SIf, stmt_then, seen, PMaybe, absent, present, PAccept, plain_accept, PAlt, alternative, AAccept, ADelay, ATerminate, alts_of, alt_then, PArm, arms_of, plain_alt}
 use Rattle.collect_model.specs.Waiting.{next_delay}
-use Rattle.abort_model.specs.AbortTeller.{AbortTeller}
+use Rattle.collect_model.specs.aborts.AbortTeller.{AbortTeller}
 use Rattle.normal_model.specs.Making.{one}
-use Rattle.abort_model.specs.Serving.{accept_told, repeated, service_watched}
-use Rattle.abort_model.specs.Waiting.{alternative_told, alternatives_told, behind_alternatives, else_told, is_taken, branch_then, branches, wait_image}
+use Rattle.collect_model.specs.aborts.Serving.{accept_told, repeated, service_watched}
+use Rattle.collect_model.specs.aborts.Waiting.{alternative_told, alternatives_told, behind_alternatives, else_told, is_taken, branch_then, branches, wait_image}
 use Rattle.collect_abort.specs.Waited.{behind_of, without_behind, branch_with, branch_of, over_then, alternative_list, branch_list, delay_behind, else_list}
 
 -- ---- one alternative

@@ -8,9 +8,9 @@ use Rattle.normal_model.specs.Making.{one}
 use Rattle.collect_model.specs.Noting.{before_call, has_begun, at_finish, has_failed, at_end}
 use Rattle.collect_model.specs.Recording.{on_end}
 use Rattle.collect_xform.specs.recorder.Branches.{arm_at}
-use Rattle.abort_model.specs.AbortTeller.{AbortTeller}
-use Rattle.abort_model.specs.Noting.{at_abort, has_returned}
-use Rattle.abort_model.specs.Recording.{choice_of, on_before_call, on_begun, on_finish, on_back, on_abort}
+use Rattle.collect_model.specs.aborts.AbortTeller.{AbortTeller}
+use Rattle.collect_model.specs.aborts.Noting.{at_abort, has_returned}
+use Rattle.collect_model.specs.aborts.Recording.{choice_of, on_before_call, on_begun, on_finish, on_back, on_abort}
 
 -- `when u => abort` the name of a task `;`
 abbrev pub abort_arm : Span → ℕ → TaskInfo → PCaseArm

@@ -1,7 +1,7 @@
 -- What a unit is told by what was looked up.
 use Rattle.normal_model.specs.Names.{id_of}
-use Rattle.abort_model.specs.Names.{taken_text, refused_text}
-use Rattle.abort_model.specs.AbortTeller.{AbortTeller}
+use Rattle.collect_model.specs.aborts.Names.{taken_text, refused_text}
+use Rattle.collect_model.specs.aborts.AbortTeller.{AbortTeller}
 use Rattle.collect_statements.specs.Looked.{teller_of}
 use Rattle.collect_abort.specs.declared.teller.AbortReporter.{AbortReporter}
 

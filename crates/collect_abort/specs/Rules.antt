@@ -4,12 +4,12 @@ use Rattle.ada_tree.specs.declared.naming.Span.{Span}
 use Rattle.ada_tree.specs.PlainStmt.{PCallee, PCall, PStmt, SAbort, SCall, SAccept, SWait, SConditional, STimed, PStmts, no_stmt, PMaybe, PAccept, PAlts}
 use Rattle.normal_model.specs.Making.{one}
 use Rattle.tree_rewriting.specs.walking.Rules.{Rule}
-use Rattle.abort_model.specs.Places.{with_place}
-use Rattle.abort_model.specs.AbortTeller.{AbortTeller}
-use Rattle.abort_model.specs.Calling.{plain_image, conditional_image, timed_image}
-use Rattle.abort_model.specs.Serving.{accept_image}
-use Rattle.abort_model.specs.Waiting.{wait_image}
-use Rattle.abort_model.specs.AbortStmts.{abort_image}
+use Rattle.collect_model.specs.aborts.Places.{with_place}
+use Rattle.collect_model.specs.aborts.AbortTeller.{AbortTeller}
+use Rattle.collect_model.specs.aborts.Calling.{plain_image, conditional_image, timed_image}
+use Rattle.collect_model.specs.aborts.Serving.{accept_image}
+use Rattle.collect_model.specs.aborts.Waiting.{wait_image}
+use Rattle.collect_model.specs.aborts.AbortStmts.{abort_image}
 
 -- what stands in the place of statements; proofs see into these where they ask to
 unfoldable pub call_told : AbortTeller → Span → PCall → PStmts

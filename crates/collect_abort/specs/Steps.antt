@@ -6,10 +6,10 @@ use Rattle.ada_tree.specs.PlainDecl.{PDecl, DTaskBody, decls_of}
 use Rattle.syn_event.specs.DeclaredTasks.{decl_list}
 use Rattle.collect_model.specs.Teller.{task_of}
 use Rattle.collect_model.specs.CollectTree.{behind_own, unit_declared}
-use Rattle.abort_model.specs.Places.{places_in}
-use Rattle.abort_model.specs.AbortTeller.{AbortTeller, told_at}
-use Rattle.abort_model.specs.AbortStmts.{task_body}
-use Rattle.abort_model.specs.AbortTree.{places_declared}
+use Rattle.collect_model.specs.aborts.Places.{places_in}
+use Rattle.collect_model.specs.aborts.AbortTeller.{AbortTeller, told_at}
+use Rattle.collect_model.specs.aborts.AbortStmts.{task_body}
+use Rattle.collect_model.specs.aborts.AbortTree.{places_declared}
 
 -- a body with its further variables, at a place
 abbrev pub with_objects : AbortTeller → List (List ℕ) → Span → PDecl → PDecl

@@ -4,10 +4,10 @@ use Rattle.ada_tree.specs.declared.naming.Span.{Span}
 use Rattle.ada_tree.specs.PlainStmt.{PStmts, no_stmt, stmt_then, PMaybe, absent, present, PAlt, alternative, AAccept, ADelay, ATerminate, PArm, arm}
 use Rattle.normal_model.specs.Making.{or_null}
 use Rattle.collect_model.specs.Waiting.{next_delay}
-use Rattle.abort_model.specs.AbortTeller.{AbortTeller}
-use Rattle.abort_model.specs.Noting.{over}
-use Rattle.abort_model.specs.Calling.{is_part}
-use Rattle.abort_model.specs.Waiting.{alternative_told}
+use Rattle.collect_model.specs.aborts.AbortTeller.{AbortTeller}
+use Rattle.collect_model.specs.aborts.Noting.{over}
+use Rattle.collect_model.specs.aborts.Calling.{is_part}
+use Rattle.collect_model.specs.aborts.Waiting.{alternative_told}
 
 -- ---- one alternative
 

@@ -2,7 +2,7 @@
 
 ghost use Rattle.std.specs.Prelude.{◌≡◌};
 ghost use Rattle.ada_tree.specs.PlainProgram.{plain_program};
-ghost use Rattle.abort_model.specs.Promised.{has_abort};
+ghost use Rattle.collect_model.specs.aborts.Promised.{has_abort};
 
 use ada_tree::Program;
 use collect_xform::first_abort;

@@ -3,7 +3,7 @@
 
 ghost use Rattle.std.specs.Prelude.{◌≡◌, OnOk};
 ghost use Rattle.ada_tree.specs.PlainStmt.{plain_body};
-ghost use Rattle.abort_model.specs.AbortStmts.{main_body, task_body};
+ghost use Rattle.collect_model.specs.aborts.AbortStmts.{main_body, task_body};
 ghost use Rattle.collect_abort.specs.Looked.{told_of};
 
 use crate::rewriting::{Aborting, Places};

@@ -4,7 +4,7 @@ ghost use Rattle.std.specs.Prelude.{◌≡◌, IfOk};
 ghost use Rattle.ada_tree.specs.PlainExpr.{plain_expr};
 ghost use Rattle.ada_tree.specs.PlainStmt.{plain_call, plain_stmt, seen};
 ghost use Rattle.ada_stmt_copy.specs.expressions.Parts.{OkWith};
-ghost use Rattle.abort_model.specs.Calling.{call_watched, call_told, is_part, parts_behind, plain_image, conditional_image, timed_image};
+ghost use Rattle.collect_model.specs.aborts.Calling.{call_watched, call_told, is_part, parts_behind, plain_image, conditional_image, timed_image};
 ghost use Rattle.collect_statements.specs.Looked.{teller_of};
 
 use crate::noting::returned_then;

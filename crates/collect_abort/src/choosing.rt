@@ -2,7 +2,7 @@
 
 ghost use Rattle.std.specs.Prelude.{◌≡◌, IfOk, length, take};
 ghost use Rattle.ada_tree.specs.PlainProgram.{plain_program};
-ghost use Rattle.abort_model.specs.Collecting.{collecting_tree};
+ghost use Rattle.collect_model.specs.aborts.Collecting.{collecting_tree};
 
 use crate::aborts::has_abort;
 use crate::program::collect;

@@ -6,7 +6,7 @@ ghost use Rattle.ada_tree.specs.PlainStmt.{plain_body};
 ghost use Rattle.ada_tree.specs.PlainDecl.{plain_decl};
 ghost use Rattle.ada_tree.specs.PlainProgram.{plain_program};
 ghost use Rattle.normal_model.specs.NormalTree.{greatest};
-ghost use Rattle.abort_model.specs.Places.{most_places, places_in, places_of};
+ghost use Rattle.collect_model.specs.aborts.Places.{most_places, places_in, places_of};
 
 use crate::rewriting::{Places, with_place};
 use ada_stmt_copy::StmtCopy;

@@ -2,7 +2,7 @@
 
 ghost use Rattle.std.specs.Prelude.{◌≡◌, ◌<◌, ◌+◌, IfOk, OnOk};
 ghost use Rattle.ada_tree.specs.NameList.{interned};
-ghost use Rattle.abort_model.specs.Names.{refused_text, taken_text, with_places, with_recorded};
+ghost use Rattle.collect_model.specs.aborts.Names.{refused_text, taken_text, with_places, with_recorded};
 
 use crate::teller::{refused_text, taken_text};
 use ada_tree::{Memory, Names};

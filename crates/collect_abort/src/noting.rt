@@ -5,7 +5,7 @@ ghost use Rattle.ada_tree.specs.PlainExpr.{plain_expr, EName};
 ghost use Rattle.ada_tree.specs.PlainStmt.{plain_stmt, seen};
 ghost use Rattle.ada_stmt_copy.specs.expressions.Parts.{OkWith};
 ghost use Rattle.collect_model.specs.Noting.{number};
-ghost use Rattle.abort_model.specs.Noting.{note_about, over, returned_then};
+ghost use Rattle.collect_model.specs.aborts.Noting.{note_about, over, returned_then};
 ghost use Rattle.collect_statements.specs.Looked.{teller_of};
 ghost use Rattle.collect_abort.specs.Looked.{told_of};
 

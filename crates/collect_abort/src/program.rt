@@ -3,8 +3,8 @@
 ghost use Rattle.std.specs.Prelude.{◌≡◌, IfOk, length, take};
 ghost use Rattle.ada_tree.specs.PlainProgram.{plain_program};
 ghost use Rattle.normal_model.specs.NormalTree.{main_unit};
-ghost use Rattle.abort_model.specs.AbortTeller.{told_in};
-ghost use Rattle.abort_model.specs.AbortTree.{abort_of, abort_tree};
+ghost use Rattle.collect_model.specs.aborts.AbortTeller.{told_in};
+ghost use Rattle.collect_model.specs.aborts.AbortTree.{abort_of, abort_tree};
 
 use crate::text::abort_text;
 use ada_tree::{Memory, Program, Types};

@@ -4,8 +4,8 @@
 ghost use Rattle.std.specs.Prelude.{◌≡◌, IfOk, OnOk, ◌+◌, map};
 ghost use Rattle.ada_tree.specs.PlainStmt.{plain_callee, plain_call, plain_accept, plain_alt, alts_of, plain_stmt, seen, seen_maybe};
 ghost use Rattle.task_model.specs.Frames.{in_front};
-ghost use Rattle.abort_model.specs.Places.{with_place};
-ghost use Rattle.abort_model.specs.AbortStmts.{abort_image};
+ghost use Rattle.collect_model.specs.aborts.Places.{with_place};
+ghost use Rattle.collect_model.specs.aborts.AbortStmts.{abort_image};
 ghost use Rattle.collect_abort.specs.Looked.{told_of};
 ghost use Rattle.collect_abort.specs.Rules.{abort_told, accept_told, call_told, choice_told, delay_told, image, wait_told};
 

@@ -6,7 +6,7 @@ ghost use Rattle.ada_tree.specs.PlainStmt.{accepting, plain_accept, plain_stmt, 
 ghost use Rattle.ada_stmt_copy.specs.expressions.Parts.{OkWith};
 ghost use Rattle.normal_model.specs.Ranges.{word_at};
 ghost use Rattle.normal_model.specs.Waits.{head_of};
-ghost use Rattle.abort_model.specs.Serving.{variable_is, is_not_refused, unless_refused, begins, accept_told, service_watched, repeated, accept_image};
+ghost use Rattle.collect_model.specs.aborts.Serving.{variable_is, is_not_refused, unless_refused, begins, accept_told, service_watched, repeated, accept_image};
 ghost use Rattle.collect_abort.specs.Looked.{told_of};
 
 use crate::noting::over;

@@ -2,8 +2,8 @@
 
 ghost use Rattle.std.specs.Prelude.{◌≡◌, IfOk, string_bytes};
 ghost use Rattle.ada_tree.specs.PlainExpr.{plain_expr, EName};
-ghost use Rattle.abort_model.specs.AbortTeller.{told_at};
-ghost use Rattle.abort_model.specs.Names.{refused_text, taken_text};
+ghost use Rattle.collect_model.specs.aborts.AbortTeller.{told_at};
+ghost use Rattle.collect_model.specs.aborts.Names.{refused_text, taken_text};
 ghost use Rattle.collect_abort.specs.Looked.{told_of};
 
 use crate::finder::Finder;

@@ -6,9 +6,9 @@ ghost use Rattle.ada_tree.specs.PlainDecl.{plain_decl};
 ghost use Rattle.ada_tree.specs.PlainProgram.{plain_program};
 ghost use Rattle.normal_model.specs.Names.{id_of};
 ghost use Rattle.normal_model.specs.NormalTree.{main_unit};
-ghost use Rattle.abort_model.specs.AbortTeller.{told_in};
-ghost use Rattle.abort_model.specs.AbortStmts.{main_body};
-ghost use Rattle.abort_model.specs.AbortTree.{abort_decls, abort_of};
+ghost use Rattle.collect_model.specs.aborts.AbortTeller.{told_in};
+ghost use Rattle.collect_model.specs.aborts.AbortStmts.{main_body};
+ghost use Rattle.collect_model.specs.aborts.AbortTree.{abort_decls, abort_of};
 ghost use Rattle.collect_abort.specs.Looked.{told_of};
 
 use crate::bodies::abort_main;

@@ -6,8 +6,8 @@ ghost use Rattle.ada_tree.specs.PlainStmt.{SIf, SWait, absent, alts_of, arms_of,
 ghost use Rattle.normal_model.specs.Making.{one};
 ghost use Rattle.collect_model.specs.Noting.{has_delay, own_note};
 ghost use Rattle.collect_model.specs.Calling.{part_is};
-ghost use Rattle.abort_model.specs.Serving.{repeated, service_watched};
-ghost use Rattle.abort_model.specs.Waiting.{part_unless_refused, alternative_told, else_told, is_taken, wait_image};
+ghost use Rattle.collect_model.specs.aborts.Serving.{repeated, service_watched};
+ghost use Rattle.collect_model.specs.aborts.Waiting.{part_unless_refused, alternative_told, else_told, is_taken, wait_image};
 ghost use Rattle.collect_abort.specs.Looked.{told_of};
 ghost use Rattle.collect_abort.specs.Waited.{alternative_list, behind_of, branch_list, branch_of, branch_with, else_list, over_then, without_behind};
 

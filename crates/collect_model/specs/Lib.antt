@@ -11,3 +11,4 @@ pub mod CollectTree
 pub mod CollectNumbers
 pub mod FirstAbort
 pub mod Collected
+pub mod aborts

@@ -3,6 +3,8 @@
 //! what a rewriter is to be proved against.
 #![tactic(auto)]
 
+pub mod aborts;
+
 use ada_tree::NameId;
 
 /// The ids of the names that a collecting text adds: the instance of INTEGER_IO and the type of flags; the formal that tells an acceptor its caller; the two

@@ -7,3 +7,4 @@ pub mod starts
 pub mod forms
 pub mod originals
 pub mod files
+pub mod aborts

@@ -7,3 +7,4 @@ pub mod checked
 pub mod declares_once
 pub mod typed
 pub mod scopes
+pub mod aborts

@@ -1,6 +1,7 @@
 //! What a collecting text has in common with the normal form that it is made from, part by part, and what is so of the collecting text of each legal program.
 #![tactic(auto)]
 
+pub mod aborts;
 pub mod asked;
 pub mod checked;
 pub mod declares_once;

@@ -1,7 +1,7 @@
 -- The finished lines of an output are those before the last of its pieces.
 use Rattle.std.proofs.Common.{◌≡◌, ℕ, ◌<◌, List, [], ◌∷◌, ◌++◌, length, refl, ap, arith}
 use Rattle.std.proofs.lemmas.List.Splits.{length-slice_split}
-use Rattle.text_lines.specs.Lines.{is_line_end}
+use Rattle.seq_file.specs.text_lines.Lines.{is_line_end}
 use Rattle.collect_runs.specs.files.Files.{HasLines}
 use Rattle.debug_run.specs.texts.OutputText.{pieces_of, but_last, last_piece, finished_lines, unfinished_line}
 

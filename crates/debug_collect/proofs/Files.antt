@@ -7,7 +7,7 @@ use Rattle.ded_io.proofs.Writes.{joined}
 use Rattle.syn_event.specs.DeclaredTasks.{text_of}
 use Rattle.syn_event.specs.Numbering.{Numbering, original_tasks, original_entries}
 use Rattle.seq_file.specs.Files.{header_line}
-use Rattle.text_lines.specs.Lines.{is_line_end}
+use Rattle.seq_file.specs.text_lines.Lines.{is_line_end}
 use Rattle.collect_model.specs.Lines.{header_text}
 use Rattle.debug_run.specs.texts.OutputText.{but_last, finished_lines}
 use Rattle.debug_run.proofs.texts.Outputting.{some_piece, but_last-cons}

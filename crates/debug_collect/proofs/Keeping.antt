@@ -17,17 +17,17 @@ use Rattle.read_back.proofs.Whole.{read_back}
 use Rattle.collect_model.specs.CollectTree.{collect_tree}
 use Rattle.collect_model.specs.CollectNumbers.{collect_numbers}
 use Rattle.collect_model.specs.FirstAbort.{first_abort}
-use Rattle.abort_model.specs.AbortTree.{abort_tree}
-use Rattle.abort_model.specs.AbortNumbers.{abort_numbers}
-use Rattle.abort_model.specs.Collecting.{collecting_numbers, collecting_tree}
-use Rattle.abort_model.specs.Promised.{has_abort}
+use Rattle.collect_model.specs.aborts.AbortTree.{abort_tree}
+use Rattle.collect_model.specs.aborts.AbortNumbers.{abort_numbers}
+use Rattle.collect_model.specs.aborts.Collecting.{collecting_numbers, collecting_tree}
+use Rattle.collect_model.specs.aborts.Promised.{has_abort}
 use Rattle.collect_runs.specs.originals.Laws.{CollectsProgram as TextCollects}
 use Rattle.collect_runs.proofs.originals.Programs.{legal_texts_collect_programs}
 use Rattle.collect_structure.proofs.legal.Placed.{legal_collect_is_placed}
 use Rattle.collect_structure.proofs.legal.Types.{collect_is_legal}
-use Rattle.abort_structure.proofs.legal.Placed.{legal_abort_is_placed}
-use Rattle.abort_structure.proofs.legal.Types.{abort_is_legal}
-use Rattle.abort_runs.proofs.originals.Programs.{legal_texts_collect_programs as legal_abort_texts_collect}
+use Rattle.collect_structure.proofs.aborts.legal.Placed.{legal_abort_is_placed}
+use Rattle.collect_structure.proofs.aborts.legal.Types.{abort_is_legal}
+use Rattle.collect_runs.proofs.aborts.originals.Programs.{legal_texts_collect_programs as legal_abort_texts_collect}
 use Rattle.debug_outcome.specs.files.Wanting.{text_limit}
 use Rattle.debug_outcome.specs.Outcomes.{Outcome, writes}
 use Rattle.debug_run.specs.RunOutcomes.{run_status}

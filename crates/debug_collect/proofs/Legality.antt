@@ -10,7 +10,7 @@ use Rattle.syn_event.specs.declared.numbering.Mode.{Mode}
 use Rattle.syn_event.specs.declared.numbering.Mode.TheVariants.{Original}
 use Rattle.syn_event.specs.Legal.{Legal}
 use Rattle.syn_event.specs.Numbering.{Numbering}
-use Rattle.replay_is_legal.proofs.fits.Counted.{tasks-within}
+use Rattle.replay_structure.proofs.legal.fits.Counted.{tasks-within}
 
 -- a legal program has few tasks
 pub few_tasks : (p : PProgram) (types : TypeTable) (numbers : Numbering) → Legal p types numbers Original → length numbers.tasks ≤ 201

@@ -21,7 +21,7 @@ use Rattle.normal_laws.specs.existence.Laws.{IsLegalOriginal}
 use Rattle.replay_runs.proofs.controls.Offers.{as-many-numbers}
 use Rattle.collect_runs.specs.originals.Laws.{CollectsProgram}
 use Rattle.collect_runs.specs.starts.Texts.{recorder_number}
-use Rattle.abort_model.specs.Collecting.{collecting_tree}
+use Rattle.collect_model.specs.aborts.Collecting.{collecting_tree}
 use Rattle.collect_runs.specs.files.Files.{file_of_lines}
 use Rattle.collect_runs.specs.files.Sequences.{IsRecordedIn}
 use Rattle.collect_runs.specs.files.Laws.{NoneApplies}
@@ -30,7 +30,7 @@ use Rattle.debug_run.specs.texts.OutputText.{finished_lines, unfinished_line}
 use Rattle.debug_collect.specs.Recorded.{AreRecorded, is_ended, recorder_of, file_at, recording}
 use Rattle.progress_law.proofs.Halting.{halted_is_over}
 use Rattle.progress_law.proofs.Picked.{picked_is_run}
-use Rattle.known_offers.proofs.Sequences.{legal_sequences_are_known}
+use Rattle.progress_law.proofs.offers.Sequences.{legal_sequences_are_known}
 use Rattle.debug_collect.proofs.Cutting.{has_lines}
 
 -- ---- ends

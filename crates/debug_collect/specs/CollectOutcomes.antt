@@ -8,7 +8,7 @@ use Rattle.ada_printer.specs.ProgramText.{program_text}
 use Rattle.syn_event.specs.declared.numbering.Mode.TheVariants.{Any}
 use Rattle.syn_event.specs.Legal.{Legal}
 use Rattle.syn_event.specs.Numbering.{Numbering}
-use Rattle.abort_model.specs.Collecting.{collecting_numbers, collecting_tree}
+use Rattle.collect_model.specs.aborts.Collecting.{collecting_numbers, collecting_tree}
 use Rattle.collect_runs.specs.originals.Laws.{CollectsProgram as TextCollects}
 use Rattle.text_laws.specs.normal_read_back.Laws.{IsReadAsSame}
 use Rattle.debug_outcome.specs.files.Wanting.{text_limit}

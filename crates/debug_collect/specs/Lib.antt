@@ -1,3 +1,5 @@
 pub mod CollectOutcomes
 pub mod Recorded
 pub mod inner
+pub mod loads
+pub mod replays

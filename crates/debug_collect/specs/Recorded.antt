@@ -15,7 +15,7 @@ use Rattle.task_model.specs.picked_runs.Outputs.{output_of}
 use Rattle.task_model.specs.picked_runs.Picked.{Position, picked, run_end}
 use Rattle.normal_laws.specs.runs.runs.Laws.{opened}
 use Rattle.replay_model.specs.ReplayTree.{last_task}
-use Rattle.abort_model.specs.Collecting.{collecting_tree}
+use Rattle.collect_model.specs.aborts.Collecting.{collecting_tree}
 use Rattle.collect_runs.specs.files.Files.{file_of_lines}
 use Rattle.collect_runs.specs.files.Sequences.{IsShown, IsShownQuiet}
 use Rattle.task_machine.specs.Views.{IsFeasible}

@@ -2,8 +2,10 @@
 #![tactic(auto)]
 
 mod collecting;
+pub mod loads;
 mod nowhere;
 mod recording;
+pub mod replays;
 
 pub use collecting::write_collect;
 pub use recording::write_recorded;

@@ -27,11 +27,11 @@ use debug_run::status_of;
 use ded_io::{Chooser, Sink};
 use interp::{RunEnd, RunError, run};
 use normal_parts::last_task;
+use seq_file::text_lines::cut_at;
 use std::alloc::Global;
 use syn_event::{Mode, Numbers};
 use task_links::Links;
 use task_machine::Machine;
-use text_lines::cut_at;
 
 /// The file of a sequence that a run records, and how the run ended.
 #[derive(Drop)]

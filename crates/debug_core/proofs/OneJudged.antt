@@ -26,7 +26,7 @@ use Rattle.divergence.specs.ViewText.{number_line, view_lines}
 use Rattle.debug_outcome.specs.Outcomes.{Outcome, writes}
 use Rattle.debug_judge.specs.JudgeOutcomes.{AreSeen, ShowsWhy, IsVerdictText, SequenceMeans, verdict_status}
 use Rattle.seq_file.proofs.MainNames.{main_is_upper}
-use Rattle.debug_replay.proofs.OwnTasks.{lists_for_all}
+use Rattle.debug_collect.proofs.replays.OwnTasks.{lists_for_all}
 use Rattle.debug_sequence.proofs.Sequences.{reads_as_unique, read_or_refused, one_refused}
 use Rattle.debug_core.proofs.ShortNumbers.{are_short}
 

@@ -10,14 +10,14 @@ use Rattle.debug_outcome.specs.words.Words.{Asked, AsksPrint, AsksCheck, AsksRun
 use Rattle.debug_outcome.specs.files.Giving.{Given, NothingGiven, BytesGiven, SeedGiven}
 use Rattle.debug_outcome.specs.Outcomes.{Outcome, writes}
 use Rattle.debug_judge.specs.JudgeOutcomes.{SequenceMeans}
-use Rattle.debug_replay.specs.ReplayOutcomes.{ReplaysLines}
+use Rattle.debug_collect.specs.replays.ReplayOutcomes.{ReplaysLines}
 use Rattle.debug_variants.specs.VariantsOutcomes.{VariantsMean}
-use Rattle.debug_replay.proofs.OneReplay.{one_replay}
+use Rattle.debug_collect.proofs.replays.OneReplay.{one_replay}
 use Rattle.debug_sequence.specs.MigrateOutcomes.{Migrates}
 use Rattle.debug_sequence.specs.RequireOutcomes.{RequiresLines}
 use Rattle.debug_sequence.proofs.OneMigrate.{one_migrate}
 use Rattle.debug_sequence.proofs.OneRequire.{one_require}
-use Rattle.debug_load.proofs.OneLoading.{one_loading}
+use Rattle.debug_collect.proofs.loads.OneLoading.{one_loading}
 use Rattle.debug_core.specs.Answers.{Means}
 use Rattle.debug_core.specs.CheckMeaning.{CheckMeans}
 use Rattle.debug_core.specs.ChosenRuns.{RunsUnder}

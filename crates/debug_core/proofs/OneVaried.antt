@@ -19,7 +19,7 @@ use Rattle.race_variant.specs.declared.continuing.GoEnd.{GoEnd}
 use Rattle.race_variant.proofs.Continued.{one_goes_on}
 use Rattle.debug_outcome.specs.files.Giving.{Given}
 use Rattle.debug_outcome.specs.Outcomes.{Outcome, writes}
-use Rattle.debug_replay.proofs.OwnTasks.{lists_for_all}
+use Rattle.debug_collect.proofs.replays.OwnTasks.{lists_for_all}
 use Rattle.debug_sequence.specs.Sequences.{ReadsAs}
 use Rattle.debug_sequence.proofs.Sequences.{reads_as_unique, read_or_refused, one_refused}
 use Rattle.debug_variants.specs.ContinueOutcomes.{CouldBeTooMany, FitsAndGoesOn, GoesOnFrom, IsContinuedText, ContinueMeans, end_status}

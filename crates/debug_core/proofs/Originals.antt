@@ -12,10 +12,10 @@ use Rattle.seq_file.specs.Lists.{list_count}
 use Rattle.seq_file.proofs.MainNames.{main_is_upper}
 use Rattle.task_model.specs.Machine.{ProgramWithInputs}
 use Rattle.race_variant.specs.KnownOffers.{OffersAreKnown}
-use Rattle.known_offers.proofs.Whole.{legal_offers_are_known}
+use Rattle.progress_law.proofs.offers.Whole.{legal_offers_are_known}
 use Rattle.normal_laws.specs.existence.Laws.{IsLegalOriginal}
 use Rattle.debug_outcome.specs.files.Wanting.{original_bytes}
-use Rattle.debug_replay.proofs.OwnTasks.{lists_for_all}
+use Rattle.debug_collect.proofs.replays.OwnTasks.{lists_for_all}
 use Rattle.text_laws.proofs.normal.Joined.{text_is_legal}
 use Rattle.debug_core.specs.LegalTexts.{IsLegalText}
 use Rattle.debug_core.specs.Starts.{IsStart}

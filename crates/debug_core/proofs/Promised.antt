@@ -21,7 +21,7 @@ use Rattle.replay_model.specs.Promised.{IsReplayText}
 use Rattle.replay_model.specs.ReplayTree.{most_events}
 use Rattle.replay_runs.specs.controls.replayed.Replaying.{AgreeBelow, Replays, ReplaysProgram, starting}
 use Rattle.debug_judge.specs.JudgeOutcomes.{IsVerdictOfSequence, SequenceMeans}
-use Rattle.debug_replay.specs.ReplayOutcomes.{IsReplayWritten, PassesLimit, ReplaysLines}
+use Rattle.debug_collect.specs.replays.ReplayOutcomes.{IsReplayWritten, PassesLimit, ReplaysLines}
 use Rattle.debug_outcome.specs.Coming.{IsRefusal}
 use Rattle.debug_outcome.specs.Outcomes.{Outcome, refuses}
 use Rattle.debug_outcome.specs.declared.refusal.Listed.TheVariants.{Events}

@@ -1,6 +1,6 @@
 -- The printed text of a program that was read is read back as the same program, and as no other.
 use Rattle.std.proofs.Common.{ℕ, true, false, List, sym, subst}
-use Rattle.lawful_reader.specs.Readers.{Answer, Found, Fault}
+use Rattle.ada_expr_parser.specs.readers.Readers.{Answer, Found, Fault}
 use Rattle.ada_tree.specs.PlainProgram.{PProgram}
 use Rattle.ada_tree.specs.Same.{Same}
 use Rattle.ada_expr_parser.specs.declared.items.Item.{Item}

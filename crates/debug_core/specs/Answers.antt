@@ -13,7 +13,7 @@ use Rattle.debug_outcome.specs.declared.refusal.Refusal.TheVariants.{Usage}
 use Rattle.debug_outcome.specs.declared.stopping.Stop.TheVariants as stop
 use Rattle.debug_outcome.specs.files.Giving.{NothingGiven, BytesGiven, SeedGiven}
 use Rattle.debug_outcome.specs.files.Wanting.{wanted_by}
-use Rattle.debug_load.specs.LoadOutcomes.{LoadMeans}
+use Rattle.debug_collect.specs.loads.LoadOutcomes.{LoadMeans}
 use Rattle.debug_core.specs.PrintMeaning.{PrintMeans}
 use Rattle.debug_core.specs.CheckMeaning.{CheckMeans}
 use Rattle.debug_core.specs.RunMeaning.{RunMeans}

@@ -1,6 +1,6 @@
 -- Which choices are made by what is given for them, and as what a bad file of choices is told (this project's rules).
 use Rattle.std.specs.Prelude.{◌≡◌, ℕ, List, [], Option, Some, None, ◌⊎◌}
-use Rattle.text_lines.specs.LineFiles.{HasFirstFault}
+use Rattle.seq_file.specs.text_lines.LineFiles.{HasFirstFault}
 use Rattle.input_file.specs.ChoiceFiles.{ChoicesRead, choice_format}
 use Rattle.input_file.specs.declared.errors.InputError.{InputError}
 use Rattle.input_file.specs.declared.errors.InputError.TheVariants as error

@@ -1,7 +1,7 @@
 -- What the tasks of a program read by the bytes of a file of inputs, and as what a bad file is told (this project's rules).
 use Rattle.std.specs.Prelude.{◌≡◌, ℕ, ℤ, List, [], Option, Some, None}
 use Rattle.syn_event.specs.Numbering.{Numbering}
-use Rattle.text_lines.specs.LineFiles.{HasFirstFault}
+use Rattle.seq_file.specs.text_lines.LineFiles.{HasFirstFault}
 use Rattle.input_file.specs.InputFiles.{InputsRead, input_format}
 use Rattle.input_file.specs.declared.errors.InputError.{InputError}
 use Rattle.input_file.specs.declared.errors.InputError.TheVariants as error

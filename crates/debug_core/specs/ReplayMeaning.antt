@@ -4,7 +4,7 @@ use Rattle.ada_tree.specs.PlainProgram.{PProgram}
 use Rattle.ada_tree.specs.TypeTable.{TypeTable}
 use Rattle.syn_event.specs.declared.numbering.Mode.TheVariants.{Original}
 use Rattle.syn_event.specs.Numbering.{Numbering}
-use Rattle.debug_replay.specs.ReplayOutcomes.{ReplaysLines}
+use Rattle.debug_collect.specs.replays.ReplayOutcomes.{ReplaysLines}
 use Rattle.debug_outcome.specs.Outcomes.{Outcome}
 use Rattle.debug_core.specs.LegalTexts.{IsLegalText, IsRefusedText}
 

@@ -8,10 +8,10 @@ ghost use Rattle.debug_core.specs.Answers.{CallsFor};
 ghost use Rattle.debug_core.specs.ReplayMeaning.{ReplayMeans};
 
 use crate::reading::read_legal;
+use debug_collect::replays::write_replay;
 use debug_outcome::files::{ReplayFiles, load_replay};
 use debug_outcome::words::ReplayWords;
 use debug_outcome::{Stop, TracedFiles};
-use debug_replay::write_replay;
 use ded_io::Sink;
 use std::alloc::Global;
 use syn_event::Mode;

@@ -21,7 +21,7 @@ use crate::replay_command::replay_command;
 use crate::require_command::require_command;
 use crate::run_command::run_command;
 use crate::variants_command::variants_command;
-use debug_load::write_load;
+use debug_collect::loads::write_load;
 use debug_outcome::words::{Command, NoWords, command_of};
 use debug_outcome::{Refusal, Stop, TracedFiles, tell};
 use ded_io::Sink;

@@ -7,7 +7,7 @@ use Rattle.std.proofs.Math.Seq.{take-append_seam}
 use Rattle.ded_io.specs.Written.{◌⧺◌, each_text}
 use Rattle.event_machine.specs.declared.Event.{Event}
 use Rattle.event_machine.specs.Tallies.{HasNoEnd}
-use Rattle.text_lines.specs.Lines.{first_line}
+use Rattle.seq_file.specs.text_lines.Lines.{first_line}
 use Rattle.syn_event.specs.Numbering.{Numbering}
 use Rattle.syn_event.specs.EventText.{event_text}
 use Rattle.seq_file.specs.declared.errors.SeqError.{SeqError}

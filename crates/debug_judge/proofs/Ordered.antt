@@ -10,8 +10,8 @@ use Rattle.seq_file.specs.Files.{SeqReads}
 use Rattle.seq_file.specs.Short.{IsShort}
 use Rattle.seq_file.proofs.ListOutcomes.{lists-unique}
 use Rattle.task_model.specs.Machine.{ProgramWithInputs}
-use Rattle.order_law.specs.Laws.{IsJudgedByOrder}
-use Rattle.order_law.proofs.Sequences.{orders_are_judged}
+use Rattle.debug_judge.specs.order_law.Laws.{IsJudgedByOrder}
+use Rattle.debug_judge.proofs.order_law.Sequences.{orders_are_judged}
 use Rattle.debug_sequence.specs.Sequences.{AreInOrder, ReadsAs}
 use Rattle.debug_sequence.proofs.Sequences.{reads_one, reads_by_tasks}
 

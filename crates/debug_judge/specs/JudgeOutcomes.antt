@@ -10,7 +10,7 @@ use Rattle.task_machine.specs.Conditions.{needed_of}
 use Rattle.task_machine.specs.Judging.{VerdictIs}
 use Rattle.task_machine.specs.Views.{View, ViewIs}
 use Rattle.divergence.specs.JudgeText.{judge_text, event_at_place}
-use Rattle.order_law.specs.Laws.{IsJudgedByOrder}
+use Rattle.debug_judge.specs.order_law.Laws.{IsJudgedByOrder}
 use Rattle.debug_outcome.specs.Outcomes.{Outcome, writes}
 use Rattle.debug_sequence.specs.Sequences.{ReadsAs, IsRefusedSequence}
 

@@ -1,2 +1,3 @@
 pub mod JudgeOutcomes
 pub mod JudgedLines
+pub mod order_law

@@ -3,6 +3,7 @@
 
 mod judged_events;
 mod judged_lines;
+pub mod order_law;
 mod verdict_texts;
 
 pub use judged_events::{LinesVerdict, is_feasible, judge_events};

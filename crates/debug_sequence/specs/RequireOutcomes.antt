@@ -5,7 +5,7 @@ use Rattle.ded_io.specs.Written.{◌⧺◌, each_text}
 use Rattle.event_machine.specs.declared.Event.{Event}
 use Rattle.syn_event.specs.EventText.{event_text}
 use Rattle.syn_event.specs.Numbering.{Numbering}
-use Rattle.text_lines.specs.LineFiles.{HasFirstFault}
+use Rattle.seq_file.specs.text_lines.LineFiles.{HasFirstFault}
 use Rattle.syn_constraint.specs.declared.constraints.Constraint.{Constraint}
 use Rattle.syn_constraint.specs.declared.errors.ConError.{ConError}
 use Rattle.syn_constraint.specs.declared.errors.ConError.TheVariants as error

@@ -1,7 +1,7 @@
 -- Numbers read word by word behind those that stand there, and what was read of a line.
 use Rattle.std.proofs.Common.{◌≡◌, ℕ, Bool, true, false, cond, List, [], ◌∷◌, ◌++◌, Option, None, Some, option_map, refl, ap, ◌∙◌, sym, append_assoc}
 use Rattle.std.specs.Prelude.{is_some, unwrap_or}
-use Rattle.text_lines.specs.Lines.{words_of, with_two, all_of}
+use Rattle.seq_file.specs.text_lines.Lines.{words_of, with_two, all_of}
 use Rattle.common_lemmas.proofs.Truth.{clash}
 
 first-case : {X : Type 0} (old new : List X) (o : Option X) → option_map (λ x. old ++ (x ∷ [])) o ≡ Some new → (x : X) × (o ≡ Some x) × (old ++ (x ∷ []) ≡ new)

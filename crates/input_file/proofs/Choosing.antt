@@ -6,12 +6,12 @@ use Rattle.std.proofs.lemmas.Bool.{cases_Bool, le-leb, leb-true}
 use Rattle.std.proofs.lemmas.List.Elements.{All-nil, All-cons, All-head, All-tail, All-push}
 use Rattle.std.proofs.lemmas.List.Folds.{concat-append}
 use Rattle.std.proofs.lemmas.List.Sums.{sum_by-append, sum_by-cons, sum_by_push}
-use Rattle.text_lines.specs.Lines.{words_of, all_of}
-use Rattle.text_lines.specs.Numerals.{small_number, is_small_number}
-use Rattle.text_lines.proofs.Filing.{Laws}
-use Rattle.text_lines.proofs.Joining.{joined-free, joined-words, words-joined, has-words, all-written, AreSpelled, all-spelled}
-use Rattle.text_lines.proofs.Marking.{IsFreeOf, free-prefix, decimal-free}
-use Rattle.text_lines.proofs.Narrowing.{number-small, small_number-of_decimal, word-of_small_number}
+use Rattle.seq_file.specs.text_lines.Lines.{words_of, all_of}
+use Rattle.seq_file.specs.text_lines.Numerals.{small_number, is_small_number}
+use Rattle.seq_file.proofs.text_lines.Filing.{Laws}
+use Rattle.seq_file.proofs.text_lines.Joining.{joined-free, joined-words, words-joined, has-words, all-written, AreSpelled, all-spelled}
+use Rattle.seq_file.proofs.text_lines.Marking.{IsFreeOf, free-prefix, decimal-free}
+use Rattle.seq_file.proofs.text_lines.Narrowing.{number-small, small_number-of_decimal, word-of_small_number}
 use Rattle.input_file.specs.declared.errors.InputError.TheVariants.{TooMany}
 use Rattle.input_file.specs.ChoiceFiles.{most_choices, choices_line, choices_of_line, IsChoiceLine, choice_count, AreChoices, choice_fault, choice_format}
 use Rattle.common_lemmas.proofs.Truth.{clash}

@@ -6,13 +6,13 @@ use Rattle.std.proofs.lemmas.Bool.{le-leb, leb-true, ltb-true}
 use Rattle.std.proofs.lemmas.List.Elements.{All-nil, All-cons, All-head, All-tail, All-push}
 use Rattle.std.proofs.lemmas.List.Sums.{sum_by-append, sum_by-cons, sum_by_push}
 use Rattle.syn_event.specs.Numbering.{Numbering}
-use Rattle.text_lines.specs.Lines.{words_of, with_two, all_of}
-use Rattle.text_lines.specs.Numerals.{count, small_integer, is_small_integer}
-use Rattle.text_lines.proofs.Filing.{Laws}
-use Rattle.text_lines.proofs.Joining.{joined-free, joined-words, words-joined, all-written, AreSpelled, all-spelled, two-case}
-use Rattle.text_lines.proofs.Marking.{IsFreeOf, free-prefix, decimal-free, signed-free}
-use Rattle.text_lines.proofs.Narrowing.{integer-small, small_integer-of_signed, word-of_small_integer}
-use Rattle.text_lines.proofs.Spelling.{count-of_decimal, word-of_count}
+use Rattle.seq_file.specs.text_lines.Lines.{words_of, with_two, all_of}
+use Rattle.seq_file.specs.text_lines.Numerals.{count, small_integer, is_small_integer}
+use Rattle.seq_file.proofs.text_lines.Filing.{Laws}
+use Rattle.seq_file.proofs.text_lines.Joining.{joined-free, joined-words, words-joined, all-written, AreSpelled, all-spelled, two-case}
+use Rattle.seq_file.proofs.text_lines.Marking.{IsFreeOf, free-prefix, decimal-free, signed-free}
+use Rattle.seq_file.proofs.text_lines.Narrowing.{integer-small, small_integer-of_signed, word-of_small_integer}
+use Rattle.seq_file.proofs.text_lines.Spelling.{count-of_decimal, word-of_count}
 use Rattle.input_file.specs.declared.errors.InputError.{InputError}
 use Rattle.input_file.specs.declared.errors.InputError.TheVariants.{BadLine, UnknownTask, TooMany}
 use Rattle.input_file.specs.InputFiles.{most_inputs, InputLine, input_with, input_text, input_of_words, input_of_line, has_line, input_count, has_task, AreApart, IsInputLine, AreInputLines, input_fault, input_format}

@@ -5,10 +5,10 @@ use Rattle.std.specs.Prelude.{◌==◌, codes, is_some, unwrap_or, option_and_th
 use Rattle.syn_event.specs.Numbering.{Numbering}
 use Rattle.std.proofs.lemmas.List.{length-map}
 use Rattle.std.proofs.lemmas.Bool.{le-leb, lt-leb}
-use Rattle.text_lines.specs.Lines.{is_line_end, first_line, cut}
-use Rattle.text_lines.specs.LineFiles.{Format, begins_with_line, HasFirstFault}
-use Rattle.text_lines.proofs.Filing.{IsReadTo, lines-unique, no-fault, fault-unique, read-start, read-more, read-end, read-fault}
-use Rattle.text_lines.proofs.Marking.{cut-parts, first-line_cut}
+use Rattle.seq_file.specs.text_lines.Lines.{is_line_end, first_line, cut}
+use Rattle.seq_file.specs.text_lines.LineFiles.{Format, begins_with_line, HasFirstFault}
+use Rattle.seq_file.proofs.text_lines.Filing.{IsReadTo, lines-unique, no-fault, fault-unique, read-start, read-more, read-end, read-fault}
+use Rattle.seq_file.proofs.text_lines.Marking.{cut-parts, first-line_cut}
 use Rattle.input_file.specs.declared.errors.InputError.{InputError}
 use Rattle.input_file.specs.declared.errors.InputError.TheVariants.{BadLine, UnknownTask, TooMany, Memory}
 use Rattle.input_file.specs.declared.table.Table.{Table}

@@ -7,8 +7,8 @@ use Rattle.std.proofs.lemmas.List.{get_or-set_same, get_or-set_other, length-set
 use Rattle.std.proofs.lemmas.List.{get_or_past}
 use Rattle.std.proofs.lemmas.List.Sums.{sum_by_push}
 use Rattle.syn_event.specs.Numbering.{Numbering}
-use Rattle.text_lines.specs.Capped.{capped}
-use Rattle.text_lines.proofs.Capping.{capped-small, capped-large}
+use Rattle.seq_file.specs.text_lines.Capped.{capped}
+use Rattle.seq_file.proofs.text_lines.Capping.{capped-small, capped-large}
 use Rattle.input_file.specs.declared.errors.InputError.{InputError}
 use Rattle.input_file.specs.declared.errors.InputError.TheVariants.{BadLine, UnknownTask, TooMany}
 use Rattle.input_file.specs.declared.table.Table.{Table}

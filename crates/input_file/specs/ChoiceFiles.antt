@@ -1,9 +1,9 @@
 -- Choice files: which choices a file is read as, and the first fault of a file (this project's format).
 use Rattle.std.specs.Prelude.{◌≡◌, ◌≢◌, ◌≤◌, ◌+◌, ℕ, true, nat_le, List, [], length, codes, decimal, map, All, Option, Some, None, if◌then◌else◌}
 use Rattle.std.specs.List.{join_with_byte, concat, sum_by}
-use Rattle.text_lines.specs.LineFiles.{Format, IsFile}
-use Rattle.text_lines.specs.Lines.{words_of, all_of}
-use Rattle.text_lines.specs.Numerals.{small_number, is_small_number}
+use Rattle.seq_file.specs.text_lines.LineFiles.{Format, IsFile}
+use Rattle.seq_file.specs.text_lines.Lines.{words_of, all_of}
+use Rattle.seq_file.specs.text_lines.Numerals.{small_number, is_small_number}
 use Rattle.input_file.specs.declared.errors.InputError.{InputError}
 use Rattle.input_file.specs.declared.errors.InputError.TheVariants.{BadLine, TooMany}
 

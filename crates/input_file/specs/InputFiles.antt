@@ -3,9 +3,9 @@ use Rattle.std.specs.Prelude.{◌≡◌, ◌≤◌, ◌<◌, ◌+◌, ◌==◌, 
 use Rattle.std.specs.Fmt.{signed_decimal}
 use Rattle.std.specs.List.{join_with_byte, sum_by}
 use Rattle.syn_event.specs.Numbering.{Numbering}
-use Rattle.text_lines.specs.LineFiles.{Format, IsFile}
-use Rattle.text_lines.specs.Lines.{words_of, all_of, with_two}
-use Rattle.text_lines.specs.Numerals.{count, small_integer, is_small_integer}
+use Rattle.seq_file.specs.text_lines.LineFiles.{Format, IsFile}
+use Rattle.seq_file.specs.text_lines.Lines.{words_of, all_of, with_two}
+use Rattle.seq_file.specs.text_lines.Numerals.{count, small_integer, is_small_integer}
 use Rattle.input_file.specs.declared.errors.InputError.{InputError}
 use Rattle.input_file.specs.declared.errors.InputError.TheVariants.{BadLine, UnknownTask, TooMany}
 

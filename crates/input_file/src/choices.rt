@@ -2,17 +2,17 @@
 
 ghost use Rattle.std.specs.Prelude.{◌≡◌, ◌≢◌, ◌<◌, ◌+◌, ◌-◌, ◌^◌, ◌++◌, [], ◌∷◌, ℕ, List, length, IfOk, IfErr, MatchResult, true, Some, None, option_map, option_and_then, if◌then◌else◌};
 ghost use Rattle.std.specs.List.{concat};
-ghost use Rattle.text_lines.specs.LineFiles.{HasFirstFault};
-ghost use Rattle.text_lines.specs.Lines.{first_line};
-ghost use Rattle.text_lines.specs.Numerals.{small_number};
+ghost use Rattle.seq_file.specs.text_lines.LineFiles.{HasFirstFault};
+ghost use Rattle.seq_file.specs.text_lines.Lines.{first_line};
+ghost use Rattle.seq_file.specs.text_lines.Numerals.{small_number};
 ghost use Rattle.input_file.specs.declared.errors.InputError.{InputError};
 ghost use Rattle.input_file.specs.declared.errors.InputError.TheVariants.{Memory};
 ghost use Rattle.input_file.specs.ChoiceFiles.{choice_format, choice_fault, choices_of_line, ChoicesRead};
 ghost use Rattle.input_file.specs.inner.NextLines.{IsNextChoices};
 
 use super::errors::InputError;
+use seq_file::text_lines::{behind_header, cut_at, small_number};
 use std::alloc::Global;
-use text_lines::{behind_header, cut_at, small_number};
 
 const MOST_CHOICES: usize = 4000000;
 

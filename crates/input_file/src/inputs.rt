@@ -2,10 +2,10 @@
 
 ghost use Rattle.std.specs.Prelude.{◌≡◌, ◌≢◌, ◌<◌, ◌+◌, ◌-◌, ◌^◌, ◌++◌, [], ◌∷◌, ℕ, ℤ, List, length, IfOk, IfErr, MatchResult, true, Option, Some, None, option_map, option_and_then, if◌then◌else◌};
 ghost use Rattle.syn_event.specs.Numbering.{Numbering};
-ghost use Rattle.text_lines.specs.LineFiles.{HasFirstFault};
-ghost use Rattle.text_lines.specs.Lines.{first_line, all_of, words_of, with_two};
-ghost use Rattle.text_lines.specs.Numerals.{count, small_integer};
-ghost use Rattle.text_lines.specs.Capped.{capped};
+ghost use Rattle.seq_file.specs.text_lines.LineFiles.{HasFirstFault};
+ghost use Rattle.seq_file.specs.text_lines.Lines.{first_line, all_of, words_of, with_two};
+ghost use Rattle.seq_file.specs.text_lines.Numerals.{count, small_integer};
+ghost use Rattle.seq_file.specs.text_lines.Capped.{capped};
 ghost use Rattle.input_file.specs.declared.errors.InputError.{InputError};
 ghost use Rattle.input_file.specs.declared.errors.InputError.TheVariants.{Memory};
 ghost use Rattle.input_file.specs.InputFiles.{InputLine, input_with, input_format, input_fault, input_of_line, InputsRead};
@@ -15,9 +15,9 @@ ghost use Rattle.input_file.specs.inner.Tables.{IsTableOf, plain_line, capped_li
 use super::errors::InputError;
 use super::table::{Line, Table, empty_table, lay, line_fault, lists_of};
 use ada_value::Inputs;
+use seq_file::text_lines::{behind_header, count, cut_at, small_integer};
 use std::alloc::Global;
 use syn_event::Numbers;
-use text_lines::{behind_header, count, cut_at, small_integer};
 
 /// The inputs that an input file has for the tasks of a program, those of all tasks from 0.
 ///

@@ -8,7 +8,7 @@ ghost use Rattle.ada_tree.specs.PlainExpr.{plain_expr};
 ghost use Rattle.scoped_names.specs.Meaning.{meaning_in};
 ghost use Rattle.normal_lookups.specs.inner.Kept.{AreStatic};
 
-use ada_static_values::static_values::{is_bound_word, is_static_word};
+use ada_scopes::values::static_values::{is_bound_word, is_static_word};
 use ada_tree::{Constant, Expr, ExprKind, Kind, Memory, NameId, Types};
 use scoped_names::ScopedNames;
 use std::alloc::Global;

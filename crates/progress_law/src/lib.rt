@@ -2,6 +2,8 @@
 #![tactic(auto)]
 
 pub mod examples;
+pub mod offers;
+pub mod rewritten;
 
 ghost use Rattle.std.specs.Prelude.{◌≡◌};
 ghost use Rattle.event_machine.specs.progress.Known.{admits};

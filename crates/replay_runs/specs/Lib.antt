@@ -3,3 +3,4 @@ pub mod translation
 pub mod starts
 pub mod found
 pub mod controls
+pub mod same

@@ -3,6 +3,7 @@
 
 pub mod controls;
 pub mod found;
+pub mod same;
 pub mod script;
 pub mod starts;
 pub mod translation;

@@ -8,3 +8,4 @@ pub mod declares_once
 pub mod checkable
 pub mod spots
 pub mod bodies
+pub mod legal

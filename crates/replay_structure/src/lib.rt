@@ -6,6 +6,7 @@ pub mod bodies;
 pub mod checkable;
 pub mod checked;
 pub mod declares_once;
+pub mod legal;
 pub mod placed;
 pub mod scopes;
 pub mod spots;

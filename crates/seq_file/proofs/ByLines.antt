@@ -4,8 +4,8 @@ use Rattle.std.specs.Prelude.{option_and_then}
 use Rattle.std.proofs.lemmas.Bool.{lt-ltb}
 use Rattle.event_machine.specs.declared.Event.{Event}
 use Rattle.syn_event.specs.Numbering.{Numbering}
-use Rattle.text_lines.specs.Lines.{first_line}
-use Rattle.text_lines.proofs.Marking.{cut-parts}
+use Rattle.seq_file.specs.text_lines.Lines.{first_line}
+use Rattle.seq_file.proofs.text_lines.Marking.{cut-parts}
 use Rattle.seq_file.specs.declared.errors.SeqError.{SeqError}
 use Rattle.seq_file.specs.declared.errors.SeqError.TheVariants.{AfterEnd, TooMany}
 use Rattle.seq_file.specs.Files.{most_events, IsReadBehind, has_ended, SeqReads, HasFirstFault, fault_of_event, line_fault, open_fault}

@@ -7,15 +7,15 @@ use Rattle.std.specs.Prelude.{◌&&◌, is_some, pos, negsuc, neg_ℤ, zero, suc
 use Rattle.event_machine.specs.declared.Event.{Event}
 use Rattle.syn_event.specs.Numbering.{Numbering}
 use Rattle.seq_file.specs.declared.lines.Verdict.TheVariants.{Known, BadNumber}
-use Rattle.text_lines.specs.Capped.{capped, capped_integer}
+use Rattle.seq_file.specs.text_lines.Capped.{capped, capped_integer}
 use Rattle.seq_file.specs.Known.{is_task, is_known_member, is_call, is_index, is_known}
 use Rattle.seq_file.specs.Lines.{with_three}
 use Rattle.seq_file.specs.inner.Verdicts.{verdict_of}
-use Rattle.text_lines.proofs.Capping.{some-is, capped-le}
+use Rattle.seq_file.proofs.text_lines.Capping.{some-is, capped-le}
 use Rattle.seq_file.proofs.Indexing.{index-same, index-exact, index-fits, member-test}
 use Rattle.seq_file.proofs.Knowing.{IsTest, task-test, low-is}
 use Rattle.common_lemmas.proofs.Truth.{clash}
-use Rattle.text_lines.proofs.Narrowing.{integer-is}
+use Rattle.seq_file.proofs.text_lines.Narrowing.{integer-is}
 
 pub three-read : (numbers : Numbering) (make : ℕ → ℕ → ℤ → Event) → length numbers.tasks < 2 ^ 32 → length numbers.entries < 2 ^ 32 →
     ((x y : ℕ) (z : ℤ) → is_known numbers (make x y z) ≡ is_call numbers x y z) →

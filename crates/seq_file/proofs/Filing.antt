@@ -15,11 +15,11 @@ use Rattle.seq_file.specs.declared.errors.SeqError.TheVariants.{BadNumber, TooMa
 use Rattle.seq_file.specs.Short.{IsShort}
 use Rattle.seq_file.specs.Files.{most_events, header_line, event_line, SeqText, is_end, has_ended, NothingFollowsEnd, AreFit, IsReadBehind, SeqReads, header_fault, fault_of_event, line_fault, FailsBehind, HasFirstFault}
 use Rattle.seq_file.specs.Known.{is_known}
-use Rattle.text_lines.specs.Lines.{is_line_end, first_line, cut}
+use Rattle.seq_file.specs.text_lines.Lines.{is_line_end, first_line, cut}
 use Rattle.seq_file.specs.Lines.{event_of_line, is_upper_name}
 use Rattle.seq_file.specs.inner.NextEvents.{IsNextEvent, IsEventLine, IsBehindHeader}
 use Rattle.seq_file.proofs.Heading.{header-sound, header-begins}
-use Rattle.text_lines.proofs.Marking.{left_of, right_of, cut-at_mark, cut-parts, first-line_cut}
+use Rattle.seq_file.proofs.text_lines.Marking.{left_of, right_of, cut-at_mark, cut-parts, first-line_cut}
 use Rattle.seq_file.proofs.Wording.{event-read, event-free, event-written}
 use Rattle.common_lemmas.proofs.Lists.{never_empty}
 use Rattle.common_lemmas.proofs.Truth.{clash, or_false}

@@ -13,17 +13,17 @@ use Rattle.syn_event.specs.Numbering.{Numbering, original_tasks, original_entrie
 use Rattle.syn_event.specs.DeclaredTasks.{text_of}
 use Rattle.seq_file.specs.declared.errors.SeqError.{SeqError}
 use Rattle.seq_file.specs.declared.errors.SeqError.TheVariants.{OtherProgram}
-use Rattle.text_lines.specs.Capped.{capped}
+use Rattle.seq_file.specs.text_lines.Capped.{capped}
 use Rattle.seq_file.specs.Short.{IsShort}
 use Rattle.seq_file.specs.Files.{header_line, is_header_of, fault_of_header, header_fault}
 use Rattle.seq_file.specs.Lists.{list_header_line, list_header_fault}
-use Rattle.text_lines.specs.Lines.{is_blank, is_line_end, words_of, cut, first_line}
+use Rattle.seq_file.specs.text_lines.Lines.{is_blank, is_line_end, words_of, cut, first_line}
 use Rattle.seq_file.specs.Lines.{Header, is_capital, is_name_part, name_goes_on, is_upper_name, upper_name, header_with, header_of_format, with_three}
 use Rattle.common_lemmas.specs.Following.{every, begins}
-use Rattle.text_lines.specs.Numerals.{is_digit, count}
-use Rattle.text_lines.proofs.Capping.{capped-small, capped-large}
-use Rattle.text_lines.proofs.Marking.{IsFreeOf, free-cons, free-one, free-prefix, decimal-free, cut-at_mark, cut-parts, first-line_cut}
-use Rattle.text_lines.proofs.Spelling.{count-of_decimal, word-of_count}
+use Rattle.seq_file.specs.text_lines.Numerals.{is_digit, count}
+use Rattle.seq_file.proofs.text_lines.Capping.{capped-small, capped-large}
+use Rattle.seq_file.proofs.text_lines.Marking.{IsFreeOf, free-cons, free-one, free-prefix, decimal-free, cut-at_mark, cut-parts, first-line_cut}
+use Rattle.seq_file.proofs.text_lines.Spelling.{count-of_decimal, word-of_count}
 use Rattle.common_lemmas.proofs.Truth.{clash}
 
 -- a number within 32 bits is not the cap

@@ -8,9 +8,9 @@ use Rattle.std.specs.Option.{option_map_or}
 use Rattle.std.specs.Prelude.{◌&&◌, ◌==◌, int_le, slice_get, FitsSigned}
 use Rattle.syn_event.specs.declared.numbering.EntryInfo.{EntryInfo}
 use Rattle.syn_event.specs.Numbering.{Numbering, entry_at}
-use Rattle.text_lines.specs.Capped.{capped_integer}
+use Rattle.seq_file.specs.text_lines.Capped.{capped_integer}
 use Rattle.seq_file.specs.Known.{is_index, is_known_member, fits_entry}
-use Rattle.text_lines.proofs.Capping.{capped-small, capped-large}
+use Rattle.seq_file.proofs.text_lines.Capping.{capped-small, capped-large}
 use Rattle.seq_file.proofs.Knowing.{IsTest, test_by}
 
 -- an index stands as it is

@@ -5,11 +5,11 @@ use Rattle.std.specs.Prelude.{◌&&◌, nat_lt, nat_le, is_some}
 use Rattle.event_machine.specs.declared.Event.{Event}
 use Rattle.syn_event.specs.Numbering.{Numbering}
 use Rattle.seq_file.specs.declared.lines.Verdict.TheVariants.{Known, BadNumber}
-use Rattle.text_lines.specs.Capped.{capped}
+use Rattle.seq_file.specs.text_lines.Capped.{capped}
 use Rattle.seq_file.specs.Known.{is_task, is_task_beside_main, is_alternative, is_known}
 use Rattle.seq_file.specs.Lines.{with_two}
 use Rattle.seq_file.specs.inner.Verdicts.{verdict_of}
-use Rattle.text_lines.proofs.Capping.{capped-small, capped-large, some-is}
+use Rattle.seq_file.proofs.text_lines.Capping.{capped-small, capped-large, some-is}
 use Rattle.common_lemmas.proofs.Numbers.{le_false, lt_false}
 use Rattle.common_lemmas.proofs.Truth.{clash}
 

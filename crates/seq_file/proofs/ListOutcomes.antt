@@ -7,10 +7,10 @@ use Rattle.std.proofs.lemmas.List.Sums.{sum_by-cons}
 use Rattle.event_machine.specs.declared.Event.{Event}
 use Rattle.syn_event.specs.Numbering.{Numbering}
 use Rattle.syn_event.specs.DeclaredTasks.{text_of}
-use Rattle.text_lines.specs.Lines.{first_line}
-use Rattle.text_lines.specs.Numerals.{natural}
-use Rattle.text_lines.proofs.Marking.{right_of}
-use Rattle.text_lines.proofs.Spelling.{natural-of_decimal}
+use Rattle.seq_file.specs.text_lines.Lines.{first_line}
+use Rattle.seq_file.specs.text_lines.Numerals.{natural}
+use Rattle.seq_file.proofs.text_lines.Marking.{right_of}
+use Rattle.seq_file.proofs.text_lines.Spelling.{natural-of_decimal}
 use Rattle.seq_file.specs.declared.errors.SeqError.{SeqError}
 use Rattle.seq_file.specs.declared.errors.SeqError.TheVariants.{BadLine, AfterEnd}
 use Rattle.seq_file.specs.Short.{IsShort}

@@ -6,10 +6,10 @@ use Rattle.std.proofs.lemmas.List.Elements.{All-nil, All-push}
 use Rattle.std.proofs.lemmas.List.Sums.{sum_by_push}
 use Rattle.event_machine.specs.declared.Event.{Event}
 use Rattle.syn_event.specs.Numbering.{Numbering}
-use Rattle.text_lines.specs.Capped.{capped}
-use Rattle.text_lines.specs.Numerals.{natural}
-use Rattle.text_lines.proofs.Marking.{cut-parts}
-use Rattle.text_lines.proofs.Spelling.{word-of_natural}
+use Rattle.seq_file.specs.text_lines.Capped.{capped}
+use Rattle.seq_file.specs.text_lines.Numerals.{natural}
+use Rattle.seq_file.proofs.text_lines.Marking.{cut-parts}
+use Rattle.seq_file.proofs.text_lines.Spelling.{word-of_natural}
 use Rattle.seq_file.specs.declared.errors.SeqError.{SeqError}
 use Rattle.seq_file.specs.declared.errors.SeqError.TheVariants.{BadLine, OtherProgram, BadNumber, AfterEnd, TooMany, Memory}
 use Rattle.seq_file.specs.declared.list_reading.Place.{Place}

@@ -7,8 +7,8 @@ use Rattle.event_machine.specs.declared.Event.{Event}
 use Rattle.event_machine.specs.declared.Event.TheVariants.{Z}
 use Rattle.syn_event.specs.EventText.{event_text}
 use Rattle.syn_event.specs.Numbering.{Numbering}
-use Rattle.text_lines.specs.Lines.{is_line_end, first_line, cut}
-use Rattle.text_lines.proofs.Marking.{right_of, first-line_cut}
+use Rattle.seq_file.specs.text_lines.Lines.{is_line_end, first_line, cut}
+use Rattle.seq_file.proofs.text_lines.Marking.{right_of, first-line_cut}
 use Rattle.seq_file.specs.declared.errors.SeqError.{SeqError}
 use Rattle.seq_file.specs.declared.errors.SeqError.TheVariants.{BadNumber, BadLine, AfterEnd, TooMany}
 use Rattle.seq_file.specs.Short.{IsShort}

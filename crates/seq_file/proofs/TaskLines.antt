@@ -8,11 +8,11 @@ use Rattle.std.proofs.lemmas.List.Elements.{All-append}
 use Rattle.std.proofs.lemmas.List.Splits.{slice_split_at, slice_split_none, join_with_byte-slice_split}
 use Rattle.std.proofs.lemmas.Slice.Eq.{bytes_eq-Decides}
 use Rattle.ded_io.specs.Written.{◌⧺◌}
-use Rattle.text_lines.specs.Lines.{is_blank, is_line_end, words_of, cut, first_line}
-use Rattle.text_lines.specs.Numerals.{natural, is_natural, value_behind}
-use Rattle.text_lines.proofs.Capping.{natural-digits}
-use Rattle.text_lines.proofs.Marking.{IsFreeOf, free-cons, free-prefix, digits-free, decimal-free, cut-at_mark, first-line_cut}
-use Rattle.text_lines.proofs.Spelling.{natural-of_decimal, word-of_natural}
+use Rattle.seq_file.specs.text_lines.Lines.{is_blank, is_line_end, words_of, cut, first_line}
+use Rattle.seq_file.specs.text_lines.Numerals.{natural, is_natural, value_behind}
+use Rattle.seq_file.proofs.text_lines.Capping.{natural-digits}
+use Rattle.seq_file.proofs.text_lines.Marking.{IsFreeOf, free-cons, free-prefix, digits-free, decimal-free, cut-at_mark, first-line_cut}
+use Rattle.seq_file.proofs.text_lines.Spelling.{natural-of_decimal, word-of_natural}
 use Rattle.seq_file.specs.Lists.{task_line, writes_number, asked_by_words, asked_by_line, begins_list}
 use Rattle.common_lemmas.proofs.Truth.{clash}
 

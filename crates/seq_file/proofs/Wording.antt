@@ -17,13 +17,13 @@ use Rattle.syn_event.specs.EventText.{event_text, call_event_text, one_text, two
 use Rattle.syn_event.specs.Numbering.{Numbering, entry_at}
 use Rattle.seq_file.specs.Short.{IsShort}
 use Rattle.seq_file.specs.Known.{is_task, is_task_beside_main, is_alternative, is_known_member, is_call, is_index, is_known, fits_entry}
-use Rattle.text_lines.specs.Lines.{is_blank, words_of}
+use Rattle.seq_file.specs.text_lines.Lines.{is_blank, words_of}
 use Rattle.seq_file.specs.Lines.{with_two, with_three, lone_event, task_event, pair_event, call_event, event_of_words, event_of_line}
-use Rattle.text_lines.specs.Numerals.{count, integer}
+use Rattle.seq_file.specs.text_lines.Numerals.{count, integer}
 use Rattle.seq_file.proofs.Indexing.{fits-index, index-small, member-test}
 use Rattle.seq_file.proofs.Knowing.{IsTest, task-test, beside-test, alternative-test}
-use Rattle.text_lines.proofs.Marking.{IsFreeOf, free-cons, free-one, decimal-free, signed-free}
-use Rattle.text_lines.proofs.Spelling.{count-of_decimal, integer-of_signed, word-of_count, word-of_integer}
+use Rattle.seq_file.proofs.text_lines.Marking.{IsFreeOf, free-cons, free-one, decimal-free, signed-free}
+use Rattle.seq_file.proofs.text_lines.Spelling.{count-of_decimal, integer-of_signed, word-of_count, word-of_integer}
 use Rattle.common_lemmas.proofs.Truth.{clash}
 
 abbrev wide : (n : ℕ) → n < 2 ^ 32 → n < 2 ^ 64

@@ -9,7 +9,7 @@ use Rattle.syn_event.specs.Numbering.{Numbering, original_tasks, original_entrie
 use Rattle.syn_event.specs.DeclaredTasks.{text_of}
 use Rattle.seq_file.specs.declared.errors.SeqError.{SeqError}
 use Rattle.seq_file.specs.declared.errors.SeqError.TheVariants.{BadLine, OtherProgram, BadNumber, AfterEnd, TooMany}
-use Rattle.text_lines.specs.Lines.{first_line}
+use Rattle.seq_file.specs.text_lines.Lines.{first_line}
 use Rattle.seq_file.specs.Lines.{Header, header_of_line, event_of_line}
 use Rattle.seq_file.specs.Known.{is_known}
 

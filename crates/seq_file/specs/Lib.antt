@@ -5,3 +5,4 @@ pub mod Lists
 pub mod Short
 pub mod Stepping
 pub mod inner
+pub mod text_lines

@@ -3,8 +3,8 @@ use Rattle.std.specs.Prelude.{ℕ, ℤ, Bool, false, ◌&&◌, ◌||◌, ◌==�
 use Rattle.event_machine.specs.declared.Event.{Event}
 use Rattle.event_machine.specs.declared.Event.TheVariants.{R, E, S, D, C, T, F, X, B, Z}
 use Rattle.common_lemmas.specs.Following.{begins, every}
-use Rattle.text_lines.specs.Lines.{words_of}
-use Rattle.text_lines.specs.Numerals.{is_digit, count, integer}
+use Rattle.seq_file.specs.text_lines.Lines.{words_of}
+use Rattle.seq_file.specs.text_lines.Numerals.{is_digit, count, integer}
 
 -- both numbers, where both words are numbers
 abbrev pub with_two : {A B X : Type 0} → (A → B → X) → Option A → Option B → Option X

@@ -6,8 +6,8 @@ use Rattle.ded_io.specs.Written.{◌⧺◌, each_text}
 use Rattle.event_machine.specs.declared.Event.{Event}
 use Rattle.syn_event.specs.Numbering.{Numbering, original_tasks, original_entries}
 use Rattle.syn_event.specs.DeclaredTasks.{text_of}
-use Rattle.text_lines.specs.Lines.{first_line, words_of}
-use Rattle.text_lines.specs.Numerals.{natural}
+use Rattle.seq_file.specs.text_lines.Lines.{first_line, words_of}
+use Rattle.seq_file.specs.text_lines.Numerals.{natural}
 use Rattle.seq_file.specs.declared.errors.SeqError.{SeqError}
 use Rattle.seq_file.specs.declared.errors.SeqError.TheVariants.{BadLine, AfterEnd, TooMany}
 use Rattle.seq_file.specs.Lines.{header_of_format, event_of_line}

@@ -1,7 +1,7 @@
 // The numbers that a program has.
 
 ghost use Rattle.std.specs.Prelude.{◌≡◌, ◌<◌, ℤ, option_copied, length, ◌^◌, ◌&&◌, true};
-ghost use Rattle.text_lines.specs.Capped.{capped_integer};
+ghost use Rattle.seq_file.specs.text_lines.Capped.{capped_integer};
 ghost use Rattle.syn_event.specs.Numbering.{entry_at};
 ghost use Rattle.seq_file.specs.Known.{is_task, is_task_beside_main, is_alternative, is_known_member, is_call, is_index, fits_entry};
 

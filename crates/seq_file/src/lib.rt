@@ -12,6 +12,7 @@ mod list_writing;
 mod reading;
 mod stepping;
 mod task_lists;
+pub mod text_lines;
 mod writing;
 
 pub use errors::SeqError;

@@ -1,10 +1,10 @@
 // The words of a line.
 
 ghost use Rattle.std.specs.Prelude.{◌≡◌, [], ◌∷◌, bytes_eq};
-ghost use Rattle.text_lines.specs.Lines.{words_of};
+ghost use Rattle.seq_file.specs.text_lines.Lines.{words_of};
 ghost use Rattle.seq_file.specs.inner.WordLists.{AreWords};
 
-use text_lines::cut_at;
+use crate::text_lines::cut_at;
 
 /// A line cut at each of its blanks.
 #[derive(Clone, Copy)]

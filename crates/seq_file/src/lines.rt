@@ -2,14 +2,14 @@
 
 ghost use Rattle.std.specs.Prelude.{◌≡◌, ◌<◌, ◌≤◌, ◌^◌, option_map, count_by, drop, length, slice_index, Some, ◌+◌, cond, ℕ, Option, unwrap_or, [], nat_eq, FitsSigned};
 ghost use Rattle.std.specs.Int.{w32};
-ghost use Rattle.text_lines.specs.Capped.{capped};
+ghost use Rattle.seq_file.specs.text_lines.Capped.{capped};
 ghost use Rattle.seq_file.specs.Short.{IsShort};
 ghost use Rattle.seq_file.specs.declared.lines.Verdict.TheVariants.{Known, BadNumber};
 ghost use Rattle.syn_event.specs.Numbering.{original_tasks, original_entries, is_original_task, is_original_entry};
 ghost use Rattle.syn_event.specs.DeclaredTasks.{text_of};
 ghost use Rattle.event_machine.specs.declared.Event.{Event};
-ghost use Rattle.text_lines.specs.Lines.{words_of};
-ghost use Rattle.text_lines.specs.Numerals.{count, integer};
+ghost use Rattle.seq_file.specs.text_lines.Lines.{words_of};
+ghost use Rattle.seq_file.specs.text_lines.Numerals.{count, integer};
 ghost use Rattle.seq_file.specs.Lines.{event_of_line, header_of_format, lone_event, task_event, pair_event, call_event, with_three, header_with, upper_name, is_upper_name, name_goes_on, is_name_part, is_capital};
 ghost use Rattle.common_lemmas.specs.Following.{every};
 ghost use Rattle.seq_file.specs.inner.Verdicts.{verdict_of};
@@ -18,9 +18,9 @@ ghost use Rattle.seq_file.specs.Files.{fault_of_header};
 use super::errors::SeqError;
 use super::known::{is_abort, is_call, is_task_beside_main, is_wait};
 use super::line_words::{Words, is_letter, is_text, split_words};
+use crate::text_lines::{count, integer, is_digit};
 use ada_tree::Names;
 use syn_event::{EntryInfo, Event, Numbers, TaskInfo};
-use text_lines::{count, integer, is_digit};
 
 /// What a line comes to that should be an event's.
 #[derive(Clone, Copy, Debug, PartialEq, Eq)]

@@ -4,7 +4,7 @@ ghost use Rattle.std.specs.Prelude.{◌≡◌, ◌≢◌, ◌<◌, ◌≤◌, �
 ghost use Rattle.event_machine.specs.declared.Event.{Event};
 ghost use Rattle.syn_event.specs.DeclaredTasks.{text_of};
 ghost use Rattle.syn_event.specs.Numbering.{Numbering};
-ghost use Rattle.text_lines.specs.Capped.{capped};
+ghost use Rattle.seq_file.specs.text_lines.Capped.{capped};
 ghost use Rattle.seq_file.specs.declared.errors.SeqError.{SeqError};
 ghost use Rattle.seq_file.specs.declared.errors.SeqError.TheVariants.{Memory, BadLine, AfterEnd};
 ghost use Rattle.seq_file.specs.Lines.{is_upper_name};
@@ -18,10 +18,10 @@ use super::line_words::{Words, is_text, split_words};
 use super::lines::{header_fault, is_number, original_tasks, program_of};
 use super::reading::{add, is_end, line_event};
 use super::task_lists::TaskLists;
+use crate::text_lines::{cut_at, natural};
 use ada_tree::Names;
 use std::alloc::Global;
 use syn_event::{Event, Numbers};
-use text_lines::{cut_at, natural};
 
 const MOST_LISTED: usize = 700000;
 

@@ -5,7 +5,7 @@ ghost use Rattle.event_machine.specs.declared.Event.{Event};
 ghost use Rattle.seq_file.specs.declared.errors.SeqError.{SeqError};
 ghost use Rattle.seq_file.specs.declared.errors.SeqError.TheVariants.{Memory};
 ghost use Rattle.syn_event.specs.DeclaredTasks.{text_of};
-ghost use Rattle.text_lines.specs.Lines.{first_line};
+ghost use Rattle.seq_file.specs.text_lines.Lines.{first_line};
 ghost use Rattle.seq_file.specs.Lines.{is_upper_name, event_of_line};
 ghost use Rattle.seq_file.specs.Files.{SeqReads, HasFirstFault, header_fault, line_fault, fault_of_event, is_end};
 ghost use Rattle.seq_file.specs.inner.NextEvents.{IsNextEvent, IsEventLine, IsBehindHeader};
@@ -13,10 +13,10 @@ ghost use Rattle.seq_file.specs.Short.{IsShort};
 
 use super::errors::SeqError;
 use super::lines::{Verdict, header_fault, program_of, read_event};
+use crate::text_lines::cut_at;
 use ada_tree::Names;
 use std::alloc::Global;
 use syn_event::{Event, Numbers};
-use text_lines::cut_at;
 
 const MOST_EVENTS: usize = 200000;
 

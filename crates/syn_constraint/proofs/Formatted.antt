@@ -8,11 +8,11 @@ use Rattle.common_lemmas.proofs.Lists.{mapped_length}
 use Rattle.common_lemmas.proofs.Options.{some_same, not_missing}
 use Rattle.syn_event.specs.Numbering.{Numbering}
 use Rattle.seq_file.specs.Short.{IsShort}
-use Rattle.text_lines.specs.Lines.{words_of, first_line, is_line_end, cut}
-use Rattle.text_lines.specs.LineFiles.{HasFirstFault}
-use Rattle.text_lines.proofs.Filing.{Laws, IsReadTo, lines-unique, no-fault, fault-unique, read-start, read-more, read-end, read-fault}
-use Rattle.text_lines.proofs.Joining.{joined-free, joined-words, words-joined}
-use Rattle.text_lines.proofs.Marking.{IsFreeOf, free-cons, free-prefix, decimal-free, signed-free, first-line_cut}
+use Rattle.seq_file.specs.text_lines.Lines.{words_of, first_line, is_line_end, cut}
+use Rattle.seq_file.specs.text_lines.LineFiles.{HasFirstFault}
+use Rattle.seq_file.proofs.text_lines.Filing.{Laws, IsReadTo, lines-unique, no-fault, fault-unique, read-start, read-more, read-end, read-fault}
+use Rattle.seq_file.proofs.text_lines.Joining.{joined-free, joined-words, words-joined}
+use Rattle.seq_file.proofs.text_lines.Marking.{IsFreeOf, free-cons, free-prefix, decimal-free, signed-free, first-line_cut}
 use Rattle.syn_constraint.specs.declared.constraints.Num.{Num}
 use Rattle.syn_constraint.specs.declared.constraints.Num.TheVariants.{Every, Same, Exact}
 use Rattle.syn_constraint.specs.declared.constraints.Letter.{Letter}

@@ -2,8 +2,8 @@
 use Rattle.std.proofs.Common.{◌≡◌, ℕ, Bool, true, false, cond, List, [], ◌∷◌, Option, None, Some, option_map, refl, ap, ◌∙◌, sym}
 use Rattle.std.specs.Prelude.{bytes_eq, codes, nat_lt}
 use Rattle.common_lemmas.proofs.Options.{some_same, not_missing}
-use Rattle.text_lines.specs.Lines.{words_of}
-use Rattle.text_lines.proofs.Joining.{has-words}
+use Rattle.seq_file.specs.text_lines.Lines.{words_of}
+use Rattle.seq_file.proofs.text_lines.Joining.{has-words}
 use Rattle.syn_constraint.specs.declared.constraints.Num.{Num}
 use Rattle.syn_constraint.specs.declared.constraints.Letter.{Letter}
 use Rattle.syn_constraint.specs.declared.constraints.Pattern.{Pattern}

@@ -13,8 +13,8 @@ use Rattle.seq_file.specs.Known.{is_task, is_task_beside_main, is_alternative, i
 use Rattle.seq_file.specs.Short.{IsShort}
 use Rattle.seq_file.proofs.Knowing.{IsTest, test_by, task-test, beside-test, alternative-test}
 use Rattle.seq_file.proofs.Indexing.{index-exact, index-same, index-small, fits-same, fits-index, member-test}
-use Rattle.text_lines.specs.Capped.{capped, capped_integer}
-use Rattle.text_lines.proofs.Capping.{capped-small, capped-large}
+use Rattle.seq_file.specs.text_lines.Capped.{capped, capped_integer}
+use Rattle.seq_file.proofs.text_lines.Capping.{capped-small, capped-large}
 use Rattle.syn_constraint.specs.declared.constraints.Num.{Num}
 use Rattle.syn_constraint.specs.declared.constraints.Num.TheVariants.{Every, Same, Exact}
 use Rattle.syn_constraint.specs.declared.constraints.Letter.{Letter}

@@ -9,9 +9,9 @@ use Rattle.std.proofs.lemmas.Slice.Eq.{bytes_eq-Decides}
 use Rattle.common_lemmas.proofs.Lists.{found_passes}
 use Rattle.common_lemmas.proofs.Options.{some_same, not_missing}
 use Rattle.common_lemmas.proofs.Truth.{clash}
-use Rattle.text_lines.specs.Numerals.{natural, integer, small_number, only_if}
-use Rattle.text_lines.proofs.Narrowing.{small_number-of_decimal, word-of_small_number}
-use Rattle.text_lines.proofs.Spelling.{integer-of_signed, word-of_integer}
+use Rattle.seq_file.specs.text_lines.Numerals.{natural, integer, small_number, only_if}
+use Rattle.seq_file.proofs.text_lines.Narrowing.{small_number-of_decimal, word-of_small_number}
+use Rattle.seq_file.proofs.text_lines.Spelling.{integer-of_signed, word-of_integer}
 use Rattle.syn_constraint.specs.declared.constraints.Num.{Num}
 use Rattle.syn_constraint.specs.declared.constraints.Num.TheVariants.{Every, Same, Exact}
 use Rattle.syn_constraint.specs.declared.constraints.Letter.{Letter}

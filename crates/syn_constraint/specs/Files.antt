@@ -1,7 +1,7 @@
 -- Constraint files: which constraints a file is read as, and the first fault of a file (this project's format).
 use Rattle.std.specs.Prelude.{◌≡◌, ◌≤◌, ◌+◌, ℕ, Bool, true, nat_le, nat_lt, List, [], ◌∷◌, length, codes, map, drop, All, Option, Some, None, if◌then◌else◌, ⊤}
 use Rattle.syn_event.specs.Numbering.{Numbering}
-use Rattle.text_lines.specs.LineFiles.{Format, IsFile}
+use Rattle.seq_file.specs.text_lines.LineFiles.{Format, IsFile}
 use Rattle.syn_constraint.specs.declared.constraints.Num.TheVariants.{Every}
 use Rattle.syn_constraint.specs.declared.constraints.Pattern.{Pattern}
 use Rattle.syn_constraint.specs.declared.constraints.Constraint.{Constraint}

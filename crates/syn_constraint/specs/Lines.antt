@@ -2,8 +2,8 @@
 use Rattle.std.specs.Prelude.{ℕ, Bool, true, false, ◌&&◌, nat_le, nat_lt, bytes_eq, List, [], ◌∷◌, ◌++◌, codes, decimal, map, take, Option, Some, None, option_map, option_and_then, if◌then◌else◌}
 use Rattle.std.specs.Fmt.{signed_decimal}
 use Rattle.std.specs.List.{join_with_byte, find}
-use Rattle.text_lines.specs.Lines.{words_of}
-use Rattle.text_lines.specs.Numerals.{integer, small_number, only_if}
+use Rattle.seq_file.specs.text_lines.Lines.{words_of}
+use Rattle.seq_file.specs.text_lines.Numerals.{integer, small_number, only_if}
 use Rattle.syn_constraint.specs.declared.constraints.Num.{Num}
 use Rattle.syn_constraint.specs.declared.constraints.Num.TheVariants.{Every, Same, Exact}
 use Rattle.syn_constraint.specs.declared.constraints.Letter.{Letter}

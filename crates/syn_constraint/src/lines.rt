@@ -8,7 +8,7 @@ ghost use Rattle.syn_constraint.specs.inner.Reading.{words_left, told, front_wit
 use super::constraints::{Constraint, Letter, Num, Pattern};
 use super::reach::number_count;
 use super::words::{first_word, is_text};
-use text_lines::{integer, small_number};
+use seq_file::text_lines::{integer, small_number};
 
 const LARGEST_LIMIT: u32 = 200000;
 

@@ -1,8 +1,8 @@
 // Reading a constraint file.
 
 ghost use Rattle.std.specs.Prelude.{◌≡◌, ◌≢◌, ◌<◌, ◌-◌, ◌^◌, ◌++◌, ◌∷◌, [], List, length, IfOk, IfErr, MatchResult, Some, option_and_then};
-ghost use Rattle.text_lines.specs.LineFiles.{HasFirstFault};
-ghost use Rattle.text_lines.specs.Lines.{first_line};
+ghost use Rattle.seq_file.specs.text_lines.LineFiles.{HasFirstFault};
+ghost use Rattle.seq_file.specs.text_lines.Lines.{first_line};
 ghost use Rattle.seq_file.specs.Short.{IsShort};
 ghost use Rattle.syn_constraint.specs.declared.constraints.Constraint.{Constraint};
 ghost use Rattle.syn_constraint.specs.declared.errors.ConError.{ConError};
@@ -15,9 +15,9 @@ use super::constraints::Constraint;
 use super::errors::ConError;
 use super::known::is_known;
 use super::lines::read_line;
+use seq_file::text_lines::{behind_header, cut_at};
 use std::alloc::Global;
 use syn_event::Numbers;
-use text_lines::{behind_header, cut_at};
 
 const MOST_CONSTRAINTS: usize = 1000;
 

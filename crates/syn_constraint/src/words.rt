@@ -3,7 +3,7 @@
 ghost use Rattle.std.specs.Prelude.{◌≡◌, [], ◌∷◌, MatchOption, bytes_eq, option_copied};
 ghost use Rattle.syn_constraint.specs.inner.Reading.{words_left};
 
-use text_lines::cut_at;
+use seq_file::text_lines::cut_at;
 
 /// The first of the words that are left of a line, and what is left behind it. What is left is the end of the line, or nothing where no word is.
 pub(crate) fn first_word<'a>(left: Option<&'a [u8]>) -> Option<(&'a [u8], Option<&'a [u8]>)>

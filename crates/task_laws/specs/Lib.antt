@@ -1,3 +1,4 @@
 pub mod translation
 pub mod invariants
 pub mod statements
+pub mod legal

@@ -2,5 +2,6 @@
 #![tactic(auto)]
 
 pub mod invariants;
+pub mod legal;
 pub mod statements;
 pub mod translation;

@@ -12,7 +12,7 @@ use Rattle.ada_tree.specs.PlainExpr.{PExpr}
 use Rattle.ada_tree.specs.PlainStmt.{PHead, PMaybe, PStmts, accepting, PAltKind, AAccept, ADelay, ATerminate, plain_alt, plain_alt_kind, alts_of}
 use Rattle.ada_static_rules.specs.StaticValue.{is_static, value_of}
 use Rattle.ada_static_rules.specs.ExprTypes.{expr_place}
-use Rattle.ada_static_values.specs.StaticAnswer.{if_static, static_answer}
+use Rattle.ada_scopes.specs.values.StaticAnswer.{if_static, static_answer}
 use Rattle.syn_event.specs.Extents.{fixed, unraised_value}
 use Rattle.syn_event.specs.CheckRefusals.{CheckRefusal}
 use Rattle.syn_event.specs.RuleAcceptPlace.{is_among}

@@ -17,7 +17,7 @@ ghost use Rattle.ada_check_places.specs.parts.inner.Waiting.{with_kind, forms_in
 use crate::parts::claims::{Claim, Claims};
 use ada_check_rules::rules::{Refusal, Rule, Standard, first, refuse_if};
 use ada_check_rules::scopes::CheckScopes;
-use ada_static_values::static_values::static_value;
+use ada_scopes::values::static_values::static_value;
 use ada_tree::{Alt, AltKind, Expr, Span, Word};
 use std::alloc::AllocError;
 use syn_event::What;

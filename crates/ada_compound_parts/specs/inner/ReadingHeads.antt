@@ -1,6 +1,6 @@
 -- What begins a statement or a loop, and what stands in front of the statements of loops and alternatives.
 use Rattle.std.specs.Prelude.{ℕ, Bool, true, false, ◌||◌, is_some, Option, Some, None, option_map}
-use Rattle.lawful_reader.specs.Readers.{Reader, pure, refuse, bind, on, token, below}
+use Rattle.ada_expr_parser.specs.readers.Readers.{Reader, pure, refuse, bind, on, token, below}
 use Rattle.ada_tree.specs.declared.naming.Span.{Span}
 use Rattle.ada_tree.specs.declared.naming.Word.{Word}
 use Rattle.ada_tree.specs.declared.expressions.Expr.{Expr}

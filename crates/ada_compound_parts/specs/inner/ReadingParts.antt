@@ -1,6 +1,6 @@
 -- What is read in compound statements besides the statements in them: the places of statements, names that stand once more, and what stands for others.
 use Rattle.std.specs.Prelude.{List, [], ◌∷◌, Option, Some, None}
-use Rattle.lawful_reader.specs.Readers.{Reader, bind, token}
+use Rattle.ada_expr_parser.specs.readers.Readers.{Reader, bind, token}
 use Rattle.ada_tree.specs.declared.naming.Span.{Span}
 use Rattle.ada_tree.specs.declared.naming.Word.{Word}
 use Rattle.ada_tree.specs.PlainExpr.{PExpr}

@@ -1,6 +1,6 @@
 -- How names of declarations are seen plainly, and a tree with the place of what ends it.
 use Rattle.std.specs.Prelude.{false, true, ℕ, List, [], ◌∷◌, Some, None}
-use Rattle.lawful_reader.specs.Readers.{Reader, refuse, bind, on}
+use Rattle.ada_expr_parser.specs.readers.Readers.{Reader, refuse, bind, on}
 use Rattle.ada_tree.specs.declared.naming.Span.{Span}
 use Rattle.ada_tree.specs.declared.naming.Word.{Word}
 use Rattle.ada_tree.specs.PlainDecl.{PDecl, DNumber, DObject, DException}

@@ -1,6 +1,6 @@
 -- How declarations are read: by the next item, and behind a name by what follows it. At a depth d, at most d levels may stand below the root of each expression.
 use Rattle.std.specs.Prelude.{ℕ, ◌+◌, nat_le, true, false, List, [], ◌∷◌, Some, None, codes, if◌then◌else◌}
-use Rattle.lawful_reader.specs.Readers.{Reader, pure, refuse, bind, on, token, look, too_deep}
+use Rattle.ada_expr_parser.specs.readers.Readers.{Reader, pure, refuse, bind, on, token, look, too_deep}
 use Rattle.ada_tree.specs.declared.naming.Span.{Span}
 use Rattle.ada_tree.specs.declared.naming.Word.{Word}
 use Rattle.ada_tree.specs.PlainExpr.{PExpr, PSubind, PDrange}

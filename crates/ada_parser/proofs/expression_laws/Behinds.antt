@@ -14,12 +14,12 @@ use Rattle.ada_expr_parser.specs.Trees.{levels, span_of, from_to, joined}
 use Rattle.ada_expr_parser.specs.Reading.{inner, operators}
 use Rattle.ada_expr_parser.specs.Parts.{expr_behind}
 use Rattle.ada_expr_parser.specs.Grammar.{symbol_item, SpellsSecond, SpellsOperator, Spells, rank, IsExpr}
-use Rattle.lawful_reader.specs.Readers.{Answer, Found, Fault, Reader, pure, bind, go_on, chain, chain_more}
-use Rattle.lawful_reader.specs.Grammars.{Texts, Up_to, Joined, AreChains, Begins}
-use Rattle.lawful_reader.specs.Lawful.{Lawful}
-use Rattle.lawful_reader.proofs.Binding.{law_pure}
-use Rattle.lawful_reader.proofs.Fitting.{law_fit, law_same}
-use Rattle.lawful_reader.proofs.Chaining.{law_chain}
+use Rattle.ada_expr_parser.specs.readers.Readers.{Answer, Found, Fault, Reader, pure, bind, go_on, chain, chain_more}
+use Rattle.ada_expr_parser.specs.readers.Grammars.{Texts, Up_to, Joined, AreChains, Begins}
+use Rattle.ada_expr_parser.specs.readers.Lawful.{Lawful}
+use Rattle.ada_expr_parser.proofs.readers.Binding.{law_pure}
+use Rattle.ada_expr_parser.proofs.readers.Fitting.{law_fit, law_same}
+use Rattle.ada_expr_parser.proofs.readers.Chaining.{law_chain}
 use Rattle.ada_parser.specs.expression_laws.Stopping.{Ends}
 use Rattle.ada_parser.specs.expression_laws.Laws.{first_operand, GoesOnBehind}
 use Rattle.ada_parser.proofs.expression_laws.Behind.{split_le}

@@ -10,13 +10,13 @@ use Rattle.ada_expr_parser.specs.Tests.{same, symbol, word}
 use Rattle.ada_expr_parser.specs.Reading.{expr}
 use Rattle.ada_expr_parser.specs.Parts as parts
 use Rattle.ada_expr_parser.specs.Grammar.{symbol_item, word_item, Spells, IsBounds, IsRangeOf, IsSubind, IsDrange}
-use Rattle.lawful_reader.specs.Readers.{pure, bind}
-use Rattle.lawful_reader.specs.Grammars.{Texts, Never, Is, One, Then, Or, Starts}
-use Rattle.lawful_reader.specs.Lawful.{Careful, Lawful, IsPassed}
-use Rattle.lawful_reader.proofs.Binding.{law_pure, law_bind, law_then}
-use Rattle.lawful_reader.proofs.Choosing.{law_on, careful_refuse}
-use Rattle.lawful_reader.proofs.Listing.{law_token}
-use Rattle.lawful_reader.proofs.Fitting.{starts_is, starts_or, starts_never, starts_token, starts_then, law_fit, law_stops}
+use Rattle.ada_expr_parser.specs.readers.Readers.{pure, bind}
+use Rattle.ada_expr_parser.specs.readers.Grammars.{Texts, Never, Is, One, Then, Or, Starts}
+use Rattle.ada_expr_parser.specs.readers.Lawful.{Careful, Lawful, IsPassed}
+use Rattle.ada_expr_parser.proofs.readers.Binding.{law_pure, law_bind, law_then}
+use Rattle.ada_expr_parser.proofs.readers.Choosing.{law_on, careful_refuse}
+use Rattle.ada_expr_parser.proofs.readers.Listing.{law_token}
+use Rattle.ada_expr_parser.proofs.readers.Fitting.{starts_is, starts_or, starts_never, starts_token, starts_then, law_fit, law_stops}
 use Rattle.ada_parser.specs.expression_laws.Stopping.{Ends, EndsMark, EndsRange}
 use Rattle.ada_parser.proofs.expression_laws.Tokens.{symbol_is, symbol_takes}
 use Rattle.ada_parser.proofs.expression_laws.Primaries.{no_place, some_word}

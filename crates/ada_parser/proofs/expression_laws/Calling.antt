@@ -14,14 +14,14 @@ use Rattle.ada_expr_parser.specs.Tests.{same, symbol, word}
 use Rattle.ada_expr_parser.specs.Reading.{inner}
 use Rattle.ada_expr_parser.specs.Parts as parts
 use Rattle.ada_expr_parser.specs.Grammar.{symbol_item, word_item, number_item, IsExpr, IsIndex, IsTarget, IsChoice}
-use Rattle.lawful_reader.specs.Readers.{pure, bind, token}
-use Rattle.lawful_reader.specs.Grammars.{Texts, Is, One, Then, Or, Below, Starts}
-use Rattle.lawful_reader.specs.Lawful.{Lawful}
-use Rattle.lawful_reader.proofs.Binding.{law_pure, law_bind, law_then}
-use Rattle.lawful_reader.proofs.Choosing.{law_on}
-use Rattle.lawful_reader.proofs.Listing.{law_token}
-use Rattle.lawful_reader.proofs.Deepening.{law_below}
-use Rattle.lawful_reader.proofs.Fitting.{starts_is, starts_or, starts_token, law_fit, law_same}
+use Rattle.ada_expr_parser.specs.readers.Readers.{pure, bind, token}
+use Rattle.ada_expr_parser.specs.readers.Grammars.{Texts, Is, One, Then, Or, Below, Starts}
+use Rattle.ada_expr_parser.specs.readers.Lawful.{Lawful}
+use Rattle.ada_expr_parser.proofs.readers.Binding.{law_pure, law_bind, law_then}
+use Rattle.ada_expr_parser.proofs.readers.Choosing.{law_on}
+use Rattle.ada_expr_parser.proofs.readers.Listing.{law_token}
+use Rattle.ada_expr_parser.proofs.readers.Deepening.{law_below}
+use Rattle.ada_expr_parser.proofs.readers.Fitting.{starts_is, starts_or, starts_token, law_fit, law_same}
 use Rattle.ada_parser.specs.expression_laws.Stopping.{Ends, EndsTarget, EndsChoice}
 use Rattle.ada_parser.proofs.expression_laws.Tokens.{symbol_is, symbol_takes}
 use Rattle.ada_parser.proofs.expression_laws.Primaries.{no_place, some_word, close_ends}

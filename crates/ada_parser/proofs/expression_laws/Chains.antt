@@ -19,9 +19,9 @@ use Rattle.ada_expr_parser.specs.Tests.{same, operator_in, operator_at, if_follo
 use Rattle.ada_expr_parser.specs.Trees.{last_operator, span_of, from_to, joined}
 use Rattle.ada_expr_parser.specs.Reading.{operators}
 use Rattle.ada_expr_parser.specs.Grammar.{symbol_item, word_item, number_item, prefix_symbol, infix_symbol, SpellsOperator, Spells, rank}
-use Rattle.lawful_reader.specs.Grammars.{Joined, AreChains, first_of}
-use Rattle.lawful_reader.specs.Lawful.{LawfulOperators}
-use Rattle.lawful_reader.proofs.Fitting.{first_append}
+use Rattle.ada_expr_parser.specs.readers.Grammars.{Joined, AreChains, first_of}
+use Rattle.ada_expr_parser.specs.readers.Lawful.{LawfulOperators}
+use Rattle.ada_expr_parser.proofs.readers.Fitting.{first_append}
 use Rattle.ada_parser.specs.expression_laws.Stopping.{Ends}
 use Rattle.ada_parser.proofs.expression_laws.Tokens.{none_is}
 use Rattle.ada_parser.proofs.expression_laws.Behind.{split_le, fits_follows, follows_fits, fits_level}

@@ -12,13 +12,13 @@ use Rattle.ada_expr_parser.specs.declared.levels.Level.TheVariants.{Logical}
 use Rattle.ada_expr_parser.specs.Tests.{same, symbol, word}
 use Rattle.ada_expr_parser.specs.Parts as parts
 use Rattle.ada_expr_parser.specs.Grammar.{symbol_item, word_item, number_item, IsTarget, AreMore, AreEnclosed, IsSecondList, AreArgs, IsCall}
-use Rattle.lawful_reader.specs.Readers.{Answer, Found, Fault, Reader, pure, bind, go_on, token, below, below_token}
-use Rattle.lawful_reader.specs.Grammars.{Texts, Is, One, Then, Or, Below, Raised, Many, Starts, first_of}
-use Rattle.lawful_reader.specs.Lawful.{Lawful}
-use Rattle.lawful_reader.proofs.Binding.{law_pure, law_bind, law_then}
-use Rattle.lawful_reader.proofs.Listing.{law_token, law_items}
-use Rattle.lawful_reader.proofs.Deepening.{law_below, law_raised}
-use Rattle.lawful_reader.proofs.Fitting.{starts_is, starts_token, starts_then, law_fit, law_same, opens_token}
+use Rattle.ada_expr_parser.specs.readers.Readers.{Answer, Found, Fault, Reader, pure, bind, go_on, token, below, below_token}
+use Rattle.ada_expr_parser.specs.readers.Grammars.{Texts, Is, One, Then, Or, Below, Raised, Many, Starts, first_of}
+use Rattle.ada_expr_parser.specs.readers.Lawful.{Lawful}
+use Rattle.ada_expr_parser.proofs.readers.Binding.{law_pure, law_bind, law_then}
+use Rattle.ada_expr_parser.proofs.readers.Listing.{law_token, law_items}
+use Rattle.ada_expr_parser.proofs.readers.Deepening.{law_below, law_raised}
+use Rattle.ada_expr_parser.proofs.readers.Fitting.{starts_is, starts_token, starts_then, law_fit, law_same, opens_token}
 use Rattle.ada_parser.specs.expression_laws.Stopping.{Ends, EndsTarget}
 use Rattle.ada_parser.proofs.expression_laws.Tokens.{symbol_is, symbol_takes}
 use Rattle.ada_parser.proofs.expression_laws.Primaries.{no_place, some_word, close_ends}

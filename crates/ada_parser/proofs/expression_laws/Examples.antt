@@ -1,6 +1,6 @@
 -- What goes on behind a name that has been read, tried on small texts.
 use Rattle.std.proofs.Common.{◌≡◌, ℕ, true, List, [], ◌∷◌, refl}
-use Rattle.lawful_reader.specs.Readers.{Found, Fault}
+use Rattle.ada_expr_parser.specs.readers.Readers.{Found, Fault}
 use Rattle.ada_tree.specs.declared.naming.Span.{Span}
 use Rattle.ada_tree.specs.declared.expressions.BinaryOp.TheVariants.{Plus}
 use Rattle.ada_tree.specs.PlainExpr.{PExpr, EInteger, EName, EBinary}

@@ -14,13 +14,13 @@ use Rattle.ada_expr_parser.specs.Tests.{same, Prefix, prefix, factor_operator, s
 use Rattle.ada_expr_parser.specs.Trees.{levels, with_prefix}
 use Rattle.ada_expr_parser.specs.Reading as reading
 use Rattle.ada_expr_parser.specs.Grammar.{symbol_item, number_item, prefix_symbol, Spells, rank}
-use Rattle.lawful_reader.specs.Readers.{Reader, pure, bind}
-use Rattle.lawful_reader.specs.Grammars.{Texts, Is, One, Then, Or, Below, Up_to, first_of}
-use Rattle.lawful_reader.specs.Lawful.{Lawful}
-use Rattle.lawful_reader.proofs.Binding.{law_pure, law_bind}
-use Rattle.lawful_reader.proofs.Deepening.{law_below}
-use Rattle.lawful_reader.proofs.Fitting.{first_append, starts_is, law_fit}
-use Rattle.lawful_reader.proofs.Chaining.{law_chain}
+use Rattle.ada_expr_parser.specs.readers.Readers.{Reader, pure, bind}
+use Rattle.ada_expr_parser.specs.readers.Grammars.{Texts, Is, One, Then, Or, Below, Up_to, first_of}
+use Rattle.ada_expr_parser.specs.readers.Lawful.{Lawful}
+use Rattle.ada_expr_parser.proofs.readers.Binding.{law_pure, law_bind}
+use Rattle.ada_expr_parser.proofs.readers.Deepening.{law_below}
+use Rattle.ada_expr_parser.proofs.readers.Fitting.{first_append, starts_is, law_fit}
+use Rattle.ada_expr_parser.proofs.readers.Chaining.{law_chain}
 use Rattle.ada_parser.specs.expression_laws.Stopping.{Ends}
 use Rattle.ada_parser.proofs.expression_laws.Tokens.{abs_or_not_is, takes_abs_or_not, plus_or_minus_is, takes_plus_or_minus}
 use Rattle.ada_parser.proofs.expression_laws.Behind.{split_le, fits_level}

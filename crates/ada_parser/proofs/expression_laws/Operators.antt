@@ -20,11 +20,11 @@ use Rattle.ada_expr_parser.specs.Tests.{same, same_operator, symbol, logical_ope
 use Rattle.ada_expr_parser.specs.Trees.{last_operator}
 use Rattle.ada_expr_parser.specs.Reading.{short_form, is_last, operator_rest, operators}
 use Rattle.ada_expr_parser.specs.Grammar.{symbol_item, infix_symbol, SpellsSecond, SpellsOperator, rank}
-use Rattle.lawful_reader.specs.Grammars.{Texts, Never, Is, One, Then, Or as Either}
-use Rattle.lawful_reader.specs.Lawful.{Careful, Lawful}
-use Rattle.lawful_reader.proofs.Binding.{law_pure}
-use Rattle.lawful_reader.proofs.Choosing.{careful_refuse, careful_on, law_on}
-use Rattle.lawful_reader.proofs.Fitting.{starts_is, starts_never, careful_fit}
+use Rattle.ada_expr_parser.specs.readers.Grammars.{Texts, Never, Is, One, Then, Or as Either}
+use Rattle.ada_expr_parser.specs.readers.Lawful.{Careful, Lawful}
+use Rattle.ada_expr_parser.proofs.readers.Binding.{law_pure}
+use Rattle.ada_expr_parser.proofs.readers.Choosing.{careful_refuse, careful_on, law_on}
+use Rattle.ada_expr_parser.proofs.readers.Fitting.{starts_is, starts_never, careful_fit}
 use Rattle.ada_parser.proofs.expression_laws.Tokens.{none_is, symbol_is, symbol_takes}
 use Rattle.ada_parser.proofs.expression_laws.Behind.{Follows, arithmetic_follows, relation_follows, follows_relation, loose_binary}
 use Rattle.common_lemmas.proofs.Options.{some_same}

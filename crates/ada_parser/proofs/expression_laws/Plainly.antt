@@ -10,9 +10,9 @@ use Rattle.ada_expr_parser.specs.declared.levels.Level.{Level}
 use Rattle.ada_expr_parser.specs.Tests.{symbol, word}
 use Rattle.ada_expr_parser.specs.Reading as reading
 use Rattle.ada_expr_parser.specs.Grammar.{symbol_item, word_item, IsExpr}
-use Rattle.lawful_reader.specs.Grammars.{Texts, Is, One, Then}
-use Rattle.lawful_reader.specs.Lawful.{Lawful}
-use Rattle.lawful_reader.proofs.Fitting.{law_fit}
+use Rattle.ada_expr_parser.specs.readers.Grammars.{Texts, Is, One, Then}
+use Rattle.ada_expr_parser.specs.readers.Lawful.{Lawful}
+use Rattle.ada_expr_parser.proofs.readers.Fitting.{law_fit}
 use Rattle.ada_parser.specs.expression_laws.Stopping.{Ends}
 use Rattle.ada_parser.proofs.expression_laws.Tokens.{symbol_is, symbol_takes, word_is}
 use Rattle.ada_parser.proofs.expression_laws.Levels.{law_expr}

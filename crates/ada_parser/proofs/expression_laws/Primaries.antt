@@ -14,14 +14,14 @@ use Rattle.ada_expr_parser.specs.Tests.{same, symbol, word, number, Number}
 use Rattle.ada_expr_parser.specs.Trees.{levels, indexed, attribute, attribute_of, in_parens}
 use Rattle.ada_expr_parser.specs.Reading as reading
 use Rattle.ada_expr_parser.specs.Grammar.{symbol_item, word_item, number_item, Spells}
-use Rattle.lawful_reader.specs.Readers.{Reader, bind}
-use Rattle.lawful_reader.specs.Grammars.{Texts, Never, Is, One, Then, Or, Below, Up_to, Starts}
-use Rattle.lawful_reader.specs.Lawful.{Lawful}
-use Rattle.lawful_reader.proofs.Binding.{law_pure, law_bind, law_then}
-use Rattle.lawful_reader.proofs.Listing.{law_token}
-use Rattle.lawful_reader.proofs.Choosing.{careful_refuse, careful_on, law_on}
-use Rattle.lawful_reader.proofs.Deepening.{law_below}
-use Rattle.lawful_reader.proofs.Fitting.{starts_is, starts_never, starts_or, starts_token, law_fit}
+use Rattle.ada_expr_parser.specs.readers.Readers.{Reader, bind}
+use Rattle.ada_expr_parser.specs.readers.Grammars.{Texts, Never, Is, One, Then, Or, Below, Up_to, Starts}
+use Rattle.ada_expr_parser.specs.readers.Lawful.{Lawful}
+use Rattle.ada_expr_parser.proofs.readers.Binding.{law_pure, law_bind, law_then}
+use Rattle.ada_expr_parser.proofs.readers.Listing.{law_token}
+use Rattle.ada_expr_parser.proofs.readers.Choosing.{careful_refuse, careful_on, law_on}
+use Rattle.ada_expr_parser.proofs.readers.Deepening.{law_below}
+use Rattle.ada_expr_parser.proofs.readers.Fitting.{starts_is, starts_never, starts_or, starts_token, law_fit}
 use Rattle.ada_parser.specs.expression_laws.Stopping.{EndsPrimary, Ends}
 use Rattle.ada_parser.proofs.expression_laws.Tokens.{symbol_is, symbol_takes, word_is, number_is}
 use Rattle.ada_parser.proofs.expression_laws.Chains.{Sp}

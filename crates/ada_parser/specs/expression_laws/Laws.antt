@@ -7,8 +7,8 @@ use Rattle.ada_expr_parser.specs.Reading.{expr}
 use Rattle.ada_expr_parser.specs.declared.levels.Level.TheVariants.{Logical, Simple, Primary}
 use Rattle.ada_expr_parser.specs.Parts as parts
 use Rattle.ada_expr_parser.specs.Grammar.{IsExpr, IsBounds, IsSubind, IsDrange, IsTarget, IsCall, IsChoice}
-use Rattle.lawful_reader.specs.Grammars.{Texts}
-use Rattle.lawful_reader.specs.Exactness.{FindsExactly, FaultsExactly}
+use Rattle.ada_expr_parser.specs.readers.Grammars.{Texts}
+use Rattle.ada_expr_parser.specs.readers.Exactness.{FindsExactly, FaultsExactly}
 use Rattle.ada_parser.specs.expression_laws.Stopping.{Ends, EndsMark, EndsRange, EndsTarget, EndsChoice}
 
 -- Before an item that ends it, exactly the expressions of a level are found, and each has one tree.

@@ -1,6 +1,6 @@
 -- How task bodies, all declarations and the ends of units are read. At a depth d, at most d levels may stand below the root of each expression.
 use Rattle.std.specs.Prelude.{ℕ, suc, Bool, true, false, ◌||◌, List, is_some}
-use Rattle.lawful_reader.specs.Readers.{Reader, pure, refuse, bind, on, token, items}
+use Rattle.ada_expr_parser.specs.readers.Readers.{Reader, pure, refuse, bind, on, token, items}
 use Rattle.ada_tree.specs.declared.naming.Span.{Span}
 use Rattle.ada_tree.specs.declared.naming.Word.{Word}
 use Rattle.ada_tree.specs.PlainStmt.{PBody}

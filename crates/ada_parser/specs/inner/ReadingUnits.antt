@@ -1,7 +1,7 @@
 -- How a whole text is read. At a depth d, at most d levels may stand below the root of each expression in the unit's own declarations.
 use Rattle.std.specs.Prelude.{ℕ, suc, Bool, true, false, codes}
-use Rattle.lawful_reader.specs.Readers.{Reader, bind, on, token}
-use Rattle.lawful_reader.specs.Exactness.{whole}
+use Rattle.ada_expr_parser.specs.readers.Readers.{Reader, bind, on, token}
+use Rattle.ada_expr_parser.specs.readers.Exactness.{whole}
 use Rattle.ada_lexer.specs.declared.symbols.Symbol.TheVariants as key
 use Rattle.ada_expr_parser.specs.declared.items.Item.{Item}
 use Rattle.ada_expr_parser.specs.Tests.{symbol, word}

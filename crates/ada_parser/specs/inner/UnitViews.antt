@@ -1,6 +1,6 @@
 -- How units of the code are seen plainly, and how their ends are read.
 use Rattle.std.specs.Prelude.{ℕ, suc, Bool, List, map}
-use Rattle.lawful_reader.specs.Readers.{Reader, bind}
+use Rattle.ada_expr_parser.specs.readers.Readers.{Reader, bind}
 use Rattle.ada_tree.specs.declared.naming.Span.{Span}
 use Rattle.ada_tree.specs.declared.naming.Word.{Word}
 use Rattle.ada_tree.specs.declared.declarations.Decl.{Decl}

@@ -1,6 +1,6 @@
 -- How simple statements are read: behind a name by what follows it, and behind `exit`. At a depth d, at most d levels may stand below the statement.
 use Rattle.std.specs.Prelude.{ℕ, ◌+◌, ◌==◌, nat_le, Bool, false, ◌||◌, List, [], ◌∷◌, Option, Some, None, codes, if◌then◌else◌}
-use Rattle.lawful_reader.specs.Readers.{Reader, pure, refuse, bind, on, token, below, look, too_deep}
+use Rattle.ada_expr_parser.specs.readers.Readers.{Reader, pure, refuse, bind, on, token, below, look, too_deep}
 use Rattle.ada_tree.specs.NameList.{predefined}
 use Rattle.ada_tree.specs.declared.naming.Span.{Span}
 use Rattle.ada_tree.specs.declared.naming.Word.{Word}

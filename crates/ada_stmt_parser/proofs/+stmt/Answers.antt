@@ -1,6 +1,6 @@
 -- The loops of the readers that call each other.
 use Rattle.std.proofs.Common.{◌≡◌, ◌-◌, true, not, is_some, option_map, sym, ap, subst, ◌∙◌, arith, rules, map}
-use Rattle.lawful_reader.specs.Readers.{Found, items, fronted}
+use Rattle.ada_expr_parser.specs.readers.Readers.{Found, items, fronted}
 use Rattle.ada_tree.specs.PlainExpr.{plain_expr}
 use Rattle.ada_tree.specs.PlainStmt.{plain_stmt, plain_arm, plain_alt, plain_alt_kind, plain_call, plain_case_arm, plain_handler, handlers_of, seen}
 use Rattle.ada_lexer.specs.declared.symbols.Symbol.TheVariants as key

@@ -1,6 +1,6 @@
 -- The reading of a statement in the order of its tests: what each part of it reads, and what stands for the others.
 use Rattle.std.specs.Prelude.{ℕ, Option, Some, None, is_some, map}
-use Rattle.lawful_reader.specs.Readers.{Reader, pure, refuse, bind, on, below, token, look}
+use Rattle.ada_expr_parser.specs.readers.Readers.{Reader, pure, refuse, bind, on, below, token, look}
 use Rattle.ada_tree.specs.declared.naming.Span.{Span}
 use Rattle.ada_tree.specs.declared.naming.Word.{Word}
 use Rattle.ada_tree.specs.PlainStmt.{PStmt, SNull, SDelay, SRaise, SAbort, SAccept, PMaybe, absent, present, PAccept, accepting, PAlt, alternative, AAccept, ADelay}

@@ -9,7 +9,7 @@ use Rattle.ada_tree.specs.PlainExpr.{PExpr}
 use Rattle.ada_static_rules.specs.ExprTypes.{expr_place}
 use Rattle.ada_static_rules.specs.StaticValue.{is_static, value_of}
 use Rattle.ada_static_rules.specs.declared.errors.TypeError.{TypeError}
-use Rattle.ada_static_values.specs.StaticAnswer.{static_answer, if_static}
+use Rattle.ada_scopes.specs.values.StaticAnswer.{static_answer, if_static}
 use Rattle.syn_event.specs.Extents.{unraised_value, fixed, count_to}
 use Rattle.ada_check_rules.specs.rules.Amounts.{capped}
 

@@ -15,7 +15,7 @@ ghost use Rattle.ada_task_numbers.specs.task_counts.inner.Shares.{rate_of, index
 use crate::task_counts::counts::task_count;
 use crate::task_objects::NamedTasks;
 use ada_check_rules::rules::{plus, product};
-use ada_static_values::static_values::is_static;
+use ada_scopes::values::static_values::is_static;
 use ada_tree::{
     Accept, Alt, AltKind, Arm, Body, Callee, CaseArm, Decl, DeclKind, Expr, Handler, NameId, Span,
     Stmt, StmtKind, Types,

@@ -6,8 +6,8 @@ ghost use Rattle.syn_event.specs.Extents.{fixed, bounds_extent, mark_extent, mar
 ghost use Rattle.ada_check_rules.specs.rules.Amounts.{capped};
 ghost use Rattle.ada_task_numbers.specs.task_objects.PlainNames.{plain_extent};
 
-use ada_static_values::named_values::mark_of;
-use ada_static_values::static_values::static_value;
+use ada_scopes::values::named_values::mark_of;
+use ada_scopes::values::static_values::static_value;
 use ada_tree::{Bounds, Drange, Expr, Kind, NameId, Span, Types};
 
 /// The first and the last value of a discrete range with static bounds.

@@ -1,6 +1,6 @@
 -- How tasks, their entries and the pragma PRIORITY are read: by the next item. At a depth d, at most d levels may stand below the root of each expression.
 use Rattle.std.specs.Prelude.{ℕ, Bool, ◌||◌, List, [], ◌∷◌, None, codes}
-use Rattle.lawful_reader.specs.Readers.{Reader, pure, refuse, bind, on, token, look, items}
+use Rattle.ada_expr_parser.specs.readers.Readers.{Reader, pure, refuse, bind, on, token, look, items}
 use Rattle.ada_tree.specs.declared.naming.Span.{Span}
 use Rattle.ada_tree.specs.declared.naming.Word.{Word}
 use Rattle.ada_tree.specs.PlainExpr.{PExpr, PDrange}

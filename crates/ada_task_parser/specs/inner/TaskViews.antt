@@ -1,6 +1,6 @@
 -- How what stands behind an entry's name is seen plainly, and a pragma PRIORITY by the id of its name.
 use Rattle.std.specs.Prelude.{ℕ, List, Option, map, option_map}
-use Rattle.lawful_reader.specs.Readers.{Reader, bind, token}
+use Rattle.ada_expr_parser.specs.readers.Readers.{Reader, bind, token}
 use Rattle.ada_tree.specs.declared.naming.Span.{Span}
 use Rattle.ada_tree.specs.declared.statements.Formal.{Formal}
 use Rattle.ada_tree.specs.declared.declarations.Drange.{Drange}

@@ -6,9 +6,9 @@ use Rattle.ada_tree.specs.declared.naming.Word.{Word}
 use Rattle.ada_tree.specs.declared.shortage.Memory.{Memory}
 use Rattle.ada_tree.specs.PlainStmt.{PBody}
 use Rattle.ada_tree.specs.PlainDecl.{PDecl, DNumber, DObject, DEnumeration, DArray, DSubtype, DException, DIntIo, DPragma, DTask, DTaskBody}
-use Rattle.abort_model.specs.AbortTeller.{AbortTeller}
-use Rattle.abort_model.specs.AbortStmts.{task_body}
-use Rattle.abort_model.specs.AbortTree.{abort_decl}
+use Rattle.collect_model.specs.aborts.AbortTeller.{AbortTeller}
+use Rattle.collect_model.specs.aborts.AbortStmts.{task_body}
+use Rattle.collect_model.specs.aborts.AbortTree.{abort_decl}
 use Rattle.collect_xform.specs.units.Steps.{body_name, with_entries}
 use Rattle.collect_abort.specs.Steps.{with_objects, with_body}
 

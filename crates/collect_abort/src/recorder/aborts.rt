@@ -6,7 +6,7 @@ ghost use Rattle.ada_tree.specs.PlainStmt.{LFor, case_arms_of, plain_case_arm, p
 ghost use Rattle.normal_model.specs.Ranges.{word_at};
 ghost use Rattle.replay_model.specs.ReplayTree.{last_task};
 ghost use Rattle.collect_model.specs.Noting.{number};
-ghost use Rattle.abort_model.specs.Recording.{aborts_from, callers_lost, abort_made, on_abort};
+ghost use Rattle.collect_model.specs.aborts.Recording.{aborts_from, callers_lost, abort_made, on_abort};
 ghost use Rattle.collect_abort.specs.Looked.{told_of};
 ghost use Rattle.collect_abort.specs.Branches.{abort_arm, abort_arms};
 

@@ -4,8 +4,8 @@ ghost use Rattle.std.specs.Prelude.{◌≡◌, ◌∷◌, ◌++◌, [], IfOk, On
 ghost use Rattle.ada_tree.specs.PlainStmt.{case_arms_of, plain_case_arm, plain_choice};
 ghost use Rattle.collect_model.specs.Noting.{has_failed};
 ghost use Rattle.collect_xform.specs.recorder.Branches.{part_arms};
-ghost use Rattle.abort_model.specs.Noting.{has_returned};
-ghost use Rattle.abort_model.specs.Recording.{branches, choice_of};
+ghost use Rattle.collect_model.specs.aborts.Noting.{has_returned};
+ghost use Rattle.collect_model.specs.aborts.Recording.{branches, choice_of};
 ghost use Rattle.collect_abort.specs.Looked.{told_of};
 ghost use Rattle.collect_abort.specs.Branches.{back_arm, first_arms, last_arms};
 

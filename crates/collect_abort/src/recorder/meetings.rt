@@ -10,7 +10,7 @@ ghost use Rattle.normal_model.specs.Making.{one};
 ghost use Rattle.collect_model.specs.Noting.{has_failed, number};
 ghost use Rattle.collect_model.specs.Lines.{call_line};
 ghost use Rattle.collect_model.specs.Recording.{answered};
-ghost use Rattle.abort_model.specs.Recording.{entry_for, entry_set, stands, stands_now, is_meeting, on_before_call, on_begun, on_finish, acceptor_line, on_back};
+ghost use Rattle.collect_model.specs.aborts.Recording.{entry_for, entry_set, stands, stands_now, is_meeting, on_before_call, on_begun, on_finish, acceptor_line, on_back};
 ghost use Rattle.collect_abort.specs.Looked.{told_of};
 
 use crate::teller::AbortReporter;

@@ -5,7 +5,7 @@ ghost use Rattle.ada_tree.specs.PlainStmt.{AAccept, ATerminate, alt_then, altern
 ghost use Rattle.ada_tree.specs.PlainDecl.{plain_decl};
 ghost use Rattle.normal_model.specs.Ranges.{word_at};
 ghost use Rattle.collect_model.specs.Recording.{flags_declared};
-ghost use Rattle.abort_model.specs.Recording.{calls_declared, note_taken, note_accept, notes_taken, recorder_body};
+ghost use Rattle.collect_model.specs.aborts.Recording.{calls_declared, note_taken, note_accept, notes_taken, recorder_body};
 ghost use Rattle.collect_abort.specs.Looked.{told_of};
 
 use crate::recorder::branches::branches;

@@ -7,9 +7,9 @@ ghost use Rattle.syn_event.specs.DeclaredTasks.{decl_list};
 ghost use Rattle.collect_model.specs.Teller.{task_of};
 ghost use Rattle.collect_model.specs.CollectTree.{behind_own, unit_declared};
 ghost use Rattle.collect_xform.specs.units.Steps.{body_name, with_entries};
-ghost use Rattle.abort_model.specs.AbortTeller.{told_at};
-ghost use Rattle.abort_model.specs.AbortStmts.{task_body};
-ghost use Rattle.abort_model.specs.AbortTree.{abort_decl, places_declared};
+ghost use Rattle.collect_model.specs.aborts.AbortTeller.{told_at};
+ghost use Rattle.collect_model.specs.aborts.AbortStmts.{task_body};
+ghost use Rattle.collect_model.specs.aborts.AbortTree.{abort_decl, places_declared};
 ghost use Rattle.collect_abort.specs.Looked.{told_of};
 ghost use Rattle.collect_abort.specs.Steps.{with_body, with_objects};
 

@@ -5,7 +5,7 @@ ghost use Rattle.ada_tree.specs.PlainDecl.{plain_decl};
 ghost use Rattle.ada_tree.specs.PlainProgram.{plain_program};
 ghost use Rattle.replay_model.specs.ReplayTree.{last_task};
 ghost use Rattle.collect_model.specs.CollectTree.{main_declared};
-ghost use Rattle.abort_model.specs.AbortTree.{abort_decl, abort_decls, objects_told, places_declared, recorder_body_told, units_told};
+ghost use Rattle.collect_model.specs.aborts.AbortTree.{abort_decl, abort_decls, objects_told, places_declared, recorder_body_told, units_told};
 ghost use Rattle.collect_abort.specs.Looked.{told_of};
 
 use crate::counting::places_in;

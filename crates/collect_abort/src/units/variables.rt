@@ -2,7 +2,7 @@
 
 ghost use Rattle.std.specs.Prelude.{◌≡◌, ◌∷◌, ◌++◌, ◌+◌, [], IfOk, OnOk, map};
 ghost use Rattle.ada_tree.specs.PlainDecl.{plain_decl};
-ghost use Rattle.abort_model.specs.AbortTree.{places_declared, refused_declared, taken_declared};
+ghost use Rattle.collect_model.specs.aborts.AbortTree.{places_declared, refused_declared, taken_declared};
 ghost use Rattle.collect_abort.specs.Looked.{told_of};
 
 use crate::teller::{AbortReporter, refused, taken};

@@ -16,7 +16,7 @@ use Rattle.syn_event.specs.DeclaredTasks.{text_of}
 use Rattle.syn_event.specs.Numbering.{original_tasks, original_entries}
 use Rattle.seq_file.proofs.Heading.{name-free}
 use Rattle.seq_file.proofs.MainNames.{main_is_upper}
-use Rattle.text_lines.proofs.Marking.{IsFreeOf, free-cons, free-one, free-prefix}
+use Rattle.seq_file.proofs.text_lines.Marking.{IsFreeOf, free-cons, free-one, free-prefix}
 use Rattle.normal_laws.specs.runs.forms.Normalisable.{numbers_of}
 use Rattle.normal_laws.specs.existence.Laws.{IsLegalOriginal}
 use Rattle.collect_model.specs.Lines.{header_text}

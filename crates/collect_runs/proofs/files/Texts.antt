@@ -10,7 +10,7 @@ use Rattle.event_machine.specs.declared.Event.TheVariants.{Z}
 use Rattle.ada_tree.specs.PlainProgram.{PProgram}
 use Rattle.syn_event.specs.Numbering.{Numbering}
 use Rattle.task_model.specs.Steps.{line_end}
-use Rattle.text_lines.specs.Lines.{is_line_end}
+use Rattle.seq_file.specs.text_lines.Lines.{is_line_end}
 use Rattle.seq_file.specs.Files.{SeqText, header_line, event_line}
 use Rattle.run_laws.specs.collecting.Notes.{line, text}
 use Rattle.run_laws.specs.collecting.Laws.{Unwritten, Written, with_end}

@@ -17,9 +17,9 @@ use Rattle.syn_event.specs.Numbering.{Numbering, task_at, task_named, entry_name
 use Rattle.syn_event.specs.DeclaredTasks.{decl_list, tasks_in, tasks_of}
 use Rattle.syn_event.proofs.DeclLists.{listed_back}
 use Rattle.task_model.specs.Setting.{Setting, is_family_in, unit_named, formals_in, formals_of_entry, formals_of_unit, formals_of_info, parameters_of, entry_parameters}
-use Rattle.legal_programs.specs.rewritten_types.Agreement.{Grows}
-use Rattle.legal_programs.proofs.rewritten_types.Lookups.{find-grown}
-use Rattle.legal_programs.proofs.types.MainScopes.{grows-decls}
+use Rattle.task_laws.specs.legal.rewritten_types.Agreement.{Grows}
+use Rattle.task_laws.proofs.legal.rewritten_types.Lookups.{find-grown}
+use Rattle.task_laws.proofs.legal.types.MainScopes.{grows-decls}
 use Rattle.normal_model.specs.NormalTree.{main_unit}
 use Rattle.normal_laws.specs.runs.forms.Normalisable.{made_for, numbers_of}
 use Rattle.normal_laws.proofs.legality.checks.Facts as facts

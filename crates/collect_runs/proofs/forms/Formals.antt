@@ -25,8 +25,8 @@ use Rattle.syn_event.specs.AllNumbers.{info_of_task, entry_of_task, entries_of_t
 use Rattle.syn_event.specs.DeclaredTasks.{tasks_of}
 use Rattle.task_model.specs.declared.parameters.FormalParameter.{FormalParameter}
 use Rattle.task_model.specs.Setting.{Setting, unit_named, formals_of_entry, formals_in, formals_of_unit, formals_of_info, parameters_of, entry_parameters}
-use Rattle.legal_programs.proofs.rewritten_types.Lookups.{find-all, place-all}
-use Rattle.legal_programs.specs.rewritten_values.Values.{old_names}
+use Rattle.task_laws.proofs.legal.rewritten_types.Lookups.{find-all, place-all}
+use Rattle.task_laws.specs.legal.rewritten_values.Values.{old_names}
 use Rattle.normal_model.specs.Names.{task_name}
 use Rattle.normal_model.specs.NormalTree.{tasks_beside, main_unit}
 use Rattle.normal_laws.specs.structure.types.Own.{own_name}

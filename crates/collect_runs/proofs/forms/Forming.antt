@@ -43,7 +43,7 @@ use Rattle.task_laws.specs.translation.Controls.{task_in}
 use Rattle.normal_laws.proofs.legality.checks.Facts as facts
 use Rattle.replay_structure.proofs.spots.Ordered.{normal_is_in_order}
 use Rattle.normal_laws.specs.existence.Laws.{IsLegalOriginal}
-use Rattle.replay_is_legal.specs.names.form_units.Inner.{inner_name}
+use Rattle.replay_structure.specs.legal.names.form_units.Inner.{inner_name}
 use Rattle.replay_runs.specs.starts.Laws.{form_in}
 use Rattle.replay_runs.specs.starts.Formals.{form_setting}
 use Rattle.replay_runs.specs.controls.permits.Laws.{IndexIs}

@@ -42,7 +42,7 @@ use Rattle.normal_laws.specs.runs.forms.Normalisable.{setting_for, variables_of}
 use Rattle.normal_laws.specs.existence.Laws.{IsLegalOriginal}
 use Rattle.replay_model.specs.Asking.{as_number, number_in, member_number}
 use Rattle.replay_model.specs.ReplayTree.{last_task}
-use Rattle.replay_is_legal.specs.names.form_units.Inner.{inner_name}
+use Rattle.replay_structure.specs.legal.names.form_units.Inner.{inner_name}
 use Rattle.replay_runs.specs.starts.Laws.{form_in, start_before}
 use Rattle.replay_runs.specs.controls.formed.Laws.{IsIndex, no_index, variable_index, static_index}
 use Rattle.replay_runs.specs.controls.indices.Laws.{IsUnitVariable}

@@ -16,13 +16,13 @@ use Rattle.syn_event.specs.Numbering.{task_at}
 use Rattle.syn_event.proofs.Weaker.{less}
 use Rattle.ada_value.specs.Variables.{Object, Variables}
 use Rattle.task_model.specs.Starting.{objects_of, unit_of_info}
-use Rattle.legal_programs.proofs.types.MainScopes.{main-stands}
+use Rattle.task_laws.proofs.legal.types.MainScopes.{main-stands}
 use Rattle.task_laws.specs.translation.Translations.{Programs}
-use Rattle.legal_programs.specs.rewritten_types.Rewriting.{staying}
-use Rattle.legal_programs.proofs.rewritten_types.Refused.{declared_once}
-use Rattle.legal_programs.proofs.rewritten_types.Staying.{staying_is_front}
-use Rattle.legal_programs.specs.rewritten_values.Values.{AgreeOnValues, old_names}
-use Rattle.legal_programs.proofs.rewritten_values.Staying.{objects_stay}
+use Rattle.task_laws.specs.legal.rewritten_types.Rewriting.{staying}
+use Rattle.task_laws.proofs.legal.rewritten_types.Refused.{declared_once}
+use Rattle.task_laws.proofs.legal.rewritten_types.Staying.{staying_is_front}
+use Rattle.task_laws.specs.legal.rewritten_values.Values.{AgreeOnValues, old_names}
+use Rattle.task_laws.proofs.legal.rewritten_values.Staying.{objects_stay}
 use Rattle.normal_laws.specs.structure.checked.Around.{own_rules}
 use Rattle.normal_laws.specs.runs.forms.Normalisable.{made_for, IsPlain}
 use Rattle.normal_laws.proofs.legality.Legal.{normal_meets_types}

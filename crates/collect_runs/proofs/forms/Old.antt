@@ -19,10 +19,10 @@ use Rattle.syn_event.specs.CheckScope.{CheckScope}
 use Rattle.syn_event.specs.CheckSites as check
 use Rattle.syn_event.specs.Numbering.{task_at}
 use Rattle.task_model.specs.Starting.{unit_among, unit_of_info, unit_of}
-use Rattle.legal_programs.specs.sites.Met.{IsMet}
-use Rattle.legal_programs.proofs.sites.Meeting.{all_met}
-use Rattle.legal_programs.proofs.types.MainScopes.{StandsWhole, bodies-stand}
-use Rattle.legal_programs.proofs.types.BodyScopes.{BodiesStand, bodies-all}
+use Rattle.task_laws.specs.legal.sites.Met.{IsMet}
+use Rattle.task_laws.proofs.legal.sites.Meeting.{all_met}
+use Rattle.task_laws.proofs.legal.types.MainScopes.{StandsWhole, bodies-stand}
+use Rattle.task_laws.proofs.legal.types.BodyScopes.{BodiesStand, bodies-all}
 use Rattle.task_laws.specs.translation.Translations.{Programs}
 use Rattle.task_laws.specs.translation.OldTexts.{Asked, only_names, OldBody, old_body, old_no_stmt, old_no_handler}
 use Rattle.normal_laws.specs.structure.checked.Around.{own_rules}

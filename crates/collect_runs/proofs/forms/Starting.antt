@@ -31,11 +31,11 @@ use Rattle.task_model.specs.Starting.{Unit, unit_of, unit_among, form_of, initia
 use Rattle.task_laws.specs.translation.Translations.{Programs}
 use Rattle.task_laws.specs.translation.Controls.{task_in}
 use Rattle.task_laws.specs.translation.OldTexts.{only_names, OldBody}
-use Rattle.legal_programs.specs.rewritten_types.Agreement.{scalar_only, Grows}
-use Rattle.legal_programs.specs.rewritten_values.Values.{old_names}
-use Rattle.legal_programs.proofs.rewritten_types.Lookups.{find-grown}
-use Rattle.legal_programs.proofs.rewritten_values.Objects.{marked_has_form}
-use Rattle.legal_programs.proofs.types.MainScopes.{grows-decls}
+use Rattle.task_laws.specs.legal.rewritten_types.Agreement.{scalar_only, Grows}
+use Rattle.task_laws.specs.legal.rewritten_values.Values.{old_names}
+use Rattle.task_laws.proofs.legal.rewritten_types.Lookups.{find-grown}
+use Rattle.task_laws.proofs.legal.rewritten_values.Objects.{marked_has_form}
+use Rattle.task_laws.proofs.legal.types.MainScopes.{grows-decls}
 use Rattle.normal_model.specs.Ranges.{word_at, truth_subtype}
 use Rattle.normal_model.specs.NormalTree.{main_unit}
 use Rattle.normal_laws.specs.runs.floors.NormalFloors.{Extends, extends_new}

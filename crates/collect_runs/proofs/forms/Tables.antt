@@ -6,7 +6,7 @@ use Rattle.ada_tree.specs.TypeTable.{TypeTable}
 use Rattle.ada_tree.specs.PlainProgram.{PProgram}
 use Rattle.ada_static_rules.specs.Refusals.{types_in}
 use Rattle.task_laws.specs.translation.Scopes.{AgreeOnTypes}
-use Rattle.legal_programs.specs.rewritten_values.Values.{AgreeOnValues}
+use Rattle.task_laws.specs.legal.rewritten_values.Values.{AgreeOnValues}
 use Rattle.normal_laws.specs.existence.Laws.{IsLegalOriginal}
 use Rattle.collect_model.specs.Names.{answer_text, part_text, caller_text, added_texts}
 use Rattle.collect_structure.specs.Names.{added_id, new_texts, kept_name}
@@ -16,14 +16,14 @@ use Rattle.collect_structure.proofs.legal.Values.{keeps-normal, keeps-text}
 use Rattle.collect_runs.specs.translation.Floors.{AreNamesAdded}
 use Rattle.collect_runs.specs.starts.Texts.{text_for, names_added, texts_of}
 use Rattle.normal_laws.specs.runs.forms.Normalisable.{made_for}
-use Rattle.legal_programs.specs.rewritten_types.Laws.{behind}
+use Rattle.task_laws.specs.legal.rewritten_types.Laws.{behind}
 use Rattle.normal_model.specs.NormalTree.{first_decls}
-use Rattle.legal_programs.specs.rewritten_types.Agreement.{Agrees}
-use Rattle.legal_programs.proofs.rewritten_types.Rooting.{rooted_agrees}
+use Rattle.task_laws.specs.legal.rewritten_types.Agreement.{Agrees}
+use Rattle.task_laws.proofs.legal.rewritten_types.Rooting.{rooted_agrees}
 use Rattle.normal_laws.proofs.structure.types.Normal.{normal_is_rooted}
 use Rattle.normal_laws.specs.runs.forms.Normalisable.{numbers_of}
-use Rattle.legal_programs.proofs.rewritten_values.Saying.{tables_agree_on_values}
-use Rattle.legal_programs.proofs.rewritten_values.Named.{literals_are_named}
+use Rattle.task_laws.proofs.legal.rewritten_values.Saying.{tables_agree_on_values}
+use Rattle.task_laws.proofs.legal.rewritten_values.Named.{literals_are_named}
 use Rattle.syn_event.proofs.Weaker.{placed_tokens}
 use Rattle.normal_laws.proofs.structure.numbers.Named.{Has}
 use Rattle.normal_laws.proofs.legality.checks.Facts as facts

@@ -18,9 +18,9 @@ use Rattle.syn_event.specs.AddedNames.{task_info}
 use Rattle.syn_event.specs.DeclaredTasks.{decl_list, tasks_in, tasks_of}
 use Rattle.task_model.specs.Setting.{Setting}
 use Rattle.task_model.specs.Starting.{unit_of}
-use Rattle.legal_programs.specs.sites.Met.{IsCheckMet}
-use Rattle.legal_programs.proofs.sites.Meeting.{all_check_met}
-use Rattle.legal_programs.proofs.rewritten_types.Lookups.{place-all}
+use Rattle.task_laws.specs.legal.sites.Met.{IsCheckMet}
+use Rattle.task_laws.proofs.legal.sites.Meeting.{all_check_met}
+use Rattle.task_laws.proofs.legal.rewritten_types.Lookups.{place-all}
 use Rattle.normal_model.specs.Names.{task_name}
 use Rattle.normal_model.specs.NormalTree.{tasks_beside, first_running, main_unit}
 use Rattle.normal_laws.proofs.structure.units.Tasks.{tasks_keep_numbers}
@@ -29,8 +29,8 @@ use Rattle.normal_laws.proofs.legality.Legal.{normal_is_legal}
 use Rattle.normal_laws.specs.existence.Laws.{IsLegalOriginal}
 use Rattle.replay_structure.specs.bodies.Laws.{has_body}
 use Rattle.replay_structure.proofs.bodies.Bodies.{unit-at}
-use Rattle.replay_is_legal.proofs.names.form_units.Entries.{tell, unit-numbered}
-use Rattle.replay_is_legal.proofs.names.form_units.OpForms.{at-place}
+use Rattle.replay_structure.proofs.legal.names.form_units.Entries.{tell, unit-numbered}
+use Rattle.replay_structure.proofs.legal.names.form_units.OpForms.{at-place}
 use Rattle.replay_runs.specs.starts.Laws.{form_in}
 use Rattle.collect_model.specs.Teller.{Teller, task_of, teller_in}
 use Rattle.collect_model.specs.CollectTree.{recorder_body_told}

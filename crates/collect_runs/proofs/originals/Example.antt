@@ -14,8 +14,8 @@ use Rattle.ada_tree.proofs.Interning.{AreNames-added}
 use Rattle.ada_static_rules.specs.Refusals.{types_in}
 use Rattle.syn_event.specs.declared.numbering.Mode.TheVariants.{Original}
 use Rattle.syn_event.specs.Legal.{Legal}
-use Rattle.legal_programs.specs.types.Typed.{IsSmall}
-use Rattle.legal_programs.proofs.rewritten_types.Lookups.{place-all}
+use Rattle.task_laws.specs.legal.types.Typed.{IsSmall}
+use Rattle.task_laws.proofs.legal.rewritten_types.Lookups.{place-all}
 use Rattle.normal_laws.specs.structure.placed.Example.{passing}
 use Rattle.normal_laws.specs.runs.forms.Normalisable.{numbers_of}
 use Rattle.normal_laws.specs.runs.runs.Example as family
@@ -23,7 +23,7 @@ use Rattle.normal_laws.proofs.structure.placed.Instance.{example_is_placeable}
 use Rattle.normal_laws.specs.existence.units.Weights.{IsLight}
 use Rattle.normal_laws.specs.existence.Laws.{IsLegalOriginal}
 use Rattle.normal_laws.proofs.existence.Instance.{IsOther, small-other}
-use Rattle.replay_is_legal.proofs.names.kept_names.Instance as example
+use Rattle.replay_structure.proofs.legal.names.kept_names.Instance as example
 use Rattle.collect_model.specs.FirstAbort.{first_abort}
 use Rattle.collect_runs.specs.originals.Laws.{IsMetBy, IsMet}
 use Rattle.collect_runs.proofs.originals.Programs.{legal_texts_collect_programs}

@@ -20,15 +20,15 @@ use Rattle.ada_value.specs.Values.{limits_or, truth_limits}
 use Rattle.ada_value.specs.declared.values.Form.{Form}
 use Rattle.ada_value.specs.Variables.{form_of_kind, form_of_mark}
 use Rattle.task_model.specs.Starting.{marked_form, plain_form, form_of}
-use Rattle.legal_programs.specs.rewritten_types.Agreement.{Grows}
-use Rattle.legal_programs.specs.rewritten_types.Rewriting.{names_declared, IsUnused, DeclareOnce, NamesOnce}
-use Rattle.legal_programs.proofs.rewritten_types.Fresh.{InHere, first-here, here-decl, unused-free}
-use Rattle.legal_programs.proofs.rewritten_types.Keeping.{grows-self, grows-on}
-use Rattle.legal_programs.proofs.rewritten_types.Lookups.{place-more, find-grown, find-only}
-use Rattle.legal_programs.proofs.rewritten_types.Unmarked.{AreUnmarked, decl-before, decl-marks, first-unmarked}
-use Rattle.legal_programs.proofs.types.GoodDeclarations.{grows-decl}
-use Rattle.legal_programs.proofs.types.GoodScopes.{names-kept}
-use Rattle.legal_programs.proofs.types.MainScopes.{grows-decls}
+use Rattle.task_laws.specs.legal.rewritten_types.Agreement.{Grows}
+use Rattle.task_laws.specs.legal.rewritten_types.Rewriting.{names_declared, IsUnused, DeclareOnce, NamesOnce}
+use Rattle.task_laws.proofs.legal.rewritten_types.Fresh.{InHere, first-here, here-decl, unused-free}
+use Rattle.task_laws.proofs.legal.rewritten_types.Keeping.{grows-self, grows-on}
+use Rattle.task_laws.proofs.legal.rewritten_types.Lookups.{place-more, find-grown, find-only}
+use Rattle.task_laws.proofs.legal.rewritten_types.Unmarked.{AreUnmarked, decl-before, decl-marks, first-unmarked}
+use Rattle.task_laws.proofs.legal.types.GoodDeclarations.{grows-decl}
+use Rattle.task_laws.proofs.legal.types.GoodScopes.{names-kept}
+use Rattle.task_laws.proofs.legal.types.MainScopes.{grows-decls}
 use Rattle.normal_model.specs.Ranges.{word_at, marked}
 use Rattle.normal_laws.specs.structure.asked.Pieces.{IsAmong, first_among, later_among}
 use Rattle.normal_laws.specs.structure.types.Laws.{AreOwn}

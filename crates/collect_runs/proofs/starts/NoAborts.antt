@@ -15,8 +15,8 @@ use Rattle.syn_event.specs.Numbering.{Numbering, task_at}
 use Rattle.syn_event.specs.DeclaredTasks.{decl_list}
 use Rattle.task_model.specs.Starting.{Unit as OneUnit, unit_of_decl, unit_among, unit_of_info, unit_of}
 use Rattle.task_laws.specs.statements.Each.{Loops, InBody}
-use Rattle.legal_programs.specs.asked.Asked.{Asks, AskedStmt, AskedStmts, AskedSome, AskedMaybe, AskedAccept, AskedAlts, AskedArms, AskedCaseArms, AskedBody, AskedHandlers}
-use Rattle.legal_programs.specs.asked.Kinds.{no_asks}
+use Rattle.task_laws.specs.legal.asked.Asked.{Asks, AskedStmt, AskedStmts, AskedSome, AskedMaybe, AskedAccept, AskedAlts, AskedArms, AskedCaseArms, AskedBody, AskedHandlers}
+use Rattle.task_laws.specs.legal.asked.Kinds.{no_asks}
 use Rattle.normal_model.specs.RewrittenUnit.{RewrittenUnit}
 use Rattle.normal_model.specs.Walk.{Rewriter, after_parts, after_stmts, after_maybe, after_accept, after_alts, after_arms, after_case_arms, after_body, after_handlers}
 use Rattle.normal_model.specs.NormalStmts.{normal_body, unit_variables}

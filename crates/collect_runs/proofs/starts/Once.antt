@@ -11,8 +11,8 @@ use Rattle.ada_static_rules.specs.Demand.{Demand, declares, Site}
 use Rattle.ada_static_rules.specs.Sites.{names_sites, decl_sites, decls_sites, body_sites, sites}
 use Rattle.ada_static_rules.specs.Declaring.{first_scope, after_decl, inner_scope, after_decls}
 use Rattle.ada_static_rules.specs.RuleDuplicate.{is_predefined, is_among, fixes, introduces, duplicate}
-use Rattle.legal_programs.specs.rewritten_types.Rewriting.{names_declared, IsUnused, DeclareOnce, NamesOnce}
-use Rattle.legal_programs.proofs.rewritten_types.Refused.{no_word}
+use Rattle.task_laws.specs.legal.rewritten_types.Rewriting.{names_declared, IsUnused, DeclareOnce, NamesOnce}
+use Rattle.task_laws.proofs.legal.rewritten_types.Refused.{no_word}
 use Rattle.normal_laws.specs.structure.once.Once.{AllOnce}
 
 -- where a name is declared, it was not used before

@@ -16,8 +16,8 @@ use Rattle.ada_static_rules.specs.Declaring.{predefined_types, first_scope}
 use Rattle.ada_static_rules.specs.Refusals.{types_in}
 use Rattle.ada_value.specs.Values.{limits_or, limits_named, truth_limits}
 use Rattle.syn_event.specs.DeclaredTasks.{text_of}
-use Rattle.legal_programs.proofs.rewritten_types.Lookups.{find-grown}
-use Rattle.legal_programs.proofs.types.MainScopes.{grows-decls}
+use Rattle.task_laws.proofs.legal.rewritten_types.Lookups.{find-grown}
+use Rattle.task_laws.proofs.legal.types.MainScopes.{grows-decls}
 use Rattle.normal_model.specs.Names.{id_of}
 use Rattle.normal_model.proofs.VariablesLemmas.{Begins, begins-trans}
 use Rattle.normal_laws.proofs.structure.types.Names.{fold-begins}

@@ -3,7 +3,7 @@ use Rattle.std.specs.Prelude.{◌≡◌, ℕ, Bool, true, false, List, [], ◌�
 use Rattle.std.specs.List.{slice_split}
 use Rattle.ded_io.specs.Written.{◌⧺◌, each_text}
 use Rattle.syn_event.specs.Numbering.{Numbering}
-use Rattle.text_lines.specs.Lines.{is_line_end}
+use Rattle.seq_file.specs.text_lines.Lines.{is_line_end}
 use Rattle.seq_file.specs.Files.{header_line}
 
 -- The output has these finished lines, each without the line feed that ends it, and this behind the last of these.

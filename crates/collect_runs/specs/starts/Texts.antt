@@ -4,7 +4,7 @@ use Rattle.ada_tree.specs.PlainProgram.{PProgram}
 use Rattle.ada_static_rules.specs.Refusals.{types_in}
 use Rattle.ada_static_rules.specs.StaticValue.{value_named}
 use Rattle.task_model.specs.Setting.{Setting}
-use Rattle.legal_programs.specs.rewritten_values.Values.{is_known}
+use Rattle.task_laws.specs.legal.rewritten_values.Values.{is_known}
 use Rattle.normal_model.specs.NormalTree.{main_unit}
 use Rattle.normal_laws.specs.runs.forms.Normalisable.{numbers_of}
 use Rattle.replay_model.specs.ReplayTree.{last_task}

@@ -5,7 +5,7 @@ use Rattle.ada_tree.specs.declared.naming.Span.{Span}
 use Rattle.ada_tree.specs.Lexical.{IsStringContent}
 use Rattle.task_model.specs.Frames.{in_front}
 use Rattle.normal_model.specs.Making.{one}
-use Rattle.legal_programs.specs.asked.Asked.{Asks, AskedStmts, AskedSome, AskedCaseArms, AskedBody}
+use Rattle.task_laws.specs.legal.asked.Asked.{Asks, AskedStmts, AskedSome, AskedCaseArms, AskedBody}
 use Rattle.normal_laws.proofs.structure.asked.Lists.{asked-join, asked-some}
 use Rattle.ada_tree.specs.PlainExpr.{EName}
 use Rattle.collect_model.specs.declared.AddedNames.{AddedNames}

@@ -3,7 +3,7 @@ use Rattle.std.proofs.Common.{◌≡◌, ℕ, ◌+◌, ◌*◌, ◌<◌, ◌≤�
 use Rattle.ada_tree.specs.declared.naming.Span.{Span}
 use Rattle.ada_tree.specs.PlainStmt.{PCall, PHead, PStmt, SCall, SConditional, STimed, PStmts, no_stmt, stmt_then, PMaybe, absent, present, accepting}
 use Rattle.normal_model.specs.Making.{one, or_null}
-use Rattle.legal_programs.specs.asked.Asked.{Asks, AskedStmt, AskedStmts, AskedSome, AskedMaybe, AskedAccept}
+use Rattle.task_laws.specs.legal.asked.Asked.{Asks, AskedStmt, AskedStmts, AskedSome, AskedMaybe, AskedAccept}
 use Rattle.replay_structure.specs.asked.Pieces.{StandsAt, IsUnder}
 use Rattle.collect_model.specs.Teller.{Teller}
 use Rattle.collect_model.specs.Noting.{has_call_else, has_expired, own_note}

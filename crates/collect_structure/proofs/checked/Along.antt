@@ -19,11 +19,11 @@ use Rattle.syn_event.specs.Extents.{size, count_to}
 use Rattle.syn_event.specs.RuleSharedVariable.{shared_name, in_body_of, shared_variable}
 use Rattle.syn_event.specs.DeclaredTasks.{decl_list}
 use Rattle.task_model.specs.Setting.{Setting}
-use Rattle.legal_programs.specs.asked.Asked.{AskedBody}
-use Rattle.legal_programs.specs.asked.Kinds.{place_asks, check_asks, both}
-use Rattle.legal_programs.proofs.asked.Placed.{placed_asked}
-use Rattle.legal_programs.proofs.asked.Checked.{checked_asked, asked_checked}
-use Rattle.legal_programs.proofs.asked.Together.{both_asked}
+use Rattle.task_laws.specs.legal.asked.Asked.{AskedBody}
+use Rattle.task_laws.specs.legal.asked.Kinds.{place_asks, check_asks, both}
+use Rattle.task_laws.proofs.legal.asked.Placed.{placed_asked}
+use Rattle.task_laws.proofs.legal.asked.Checked.{checked_asked, asked_checked}
+use Rattle.task_laws.proofs.legal.asked.Together.{both_asked}
 use Rattle.normal_laws.proofs.structure.numbers.Listed.{IsPlain, IsOneTask, IsOneBody}
 use Rattle.normal_laws.specs.structure.numbers.Single.{IsSingle}
 use Rattle.normal_laws.proofs.structure.checked.Places.{met-deep, met-use, passed-not}

@@ -21,8 +21,8 @@ use Rattle.syn_event.specs.RuleSelectForm.{alt_kinds}
 use Rattle.syn_event.specs.RuleSameEntryTwice.{accept_heads}
 use Rattle.syn_event.specs.Numbering.{owner_of}
 use Rattle.task_model.specs.Setting.{Setting, first_expr, lists_in, lists_of, is_family, entry_of}
-use Rattle.legal_programs.specs.asked.Asked.{Asks, AskedAlts}
-use Rattle.legal_programs.specs.asked.Kinds.{place_asks, check_asks, both, before_sites}
+use Rattle.task_laws.specs.legal.asked.Asked.{Asks, AskedAlts}
+use Rattle.task_laws.specs.legal.asked.Kinds.{place_asks, check_asks, both, before_sites}
 use Rattle.normal_model.specs.Ranges.{kind_of_range, family_range, word_at}
 use Rattle.normal_model.specs.Calls.{entry_called, lists_called}
 use Rattle.normal_laws.proofs.structure.checked.Places.{met-deep, met-callee, met-wait, met-raise, met-use}

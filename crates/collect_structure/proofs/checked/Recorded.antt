@@ -14,8 +14,8 @@ use Rattle.syn_event.specs.CheckScope.{EnclosingUnit, CheckScope, CheckSite, dec
 use Rattle.syn_event.specs.CheckSites as check
 use Rattle.syn_event.specs.RuleAcceptPlace.{is_among}
 use Rattle.syn_event.specs.RuleSharedVariable.{shared_variable}
-use Rattle.legal_programs.specs.asked.Kinds.{check_asks}
-use Rattle.legal_programs.proofs.asked.Checked.{asked_checked}
+use Rattle.task_laws.specs.legal.asked.Kinds.{check_asks}
+use Rattle.task_laws.proofs.legal.asked.Checked.{asked_checked}
 use Rattle.normal_model.specs.Ranges.{word_at}
 use Rattle.normal_laws.proofs.structure.checked.Places.{met-deep, met-alternative, met-use, met-accept, met-wait}
 use Rattle.replay_structure.proofs.checked.Scopes.{uses-under, inner-use}

@@ -21,7 +21,7 @@ use Rattle.syn_event.specs.RuleExitPlace.{is_left}
 use Rattle.syn_event.specs.RuleMainEntry.{no_task}
 use Rattle.syn_event.specs.RuleSharedVariable.{shared_name, in_body_of, shared_variable}
 use Rattle.syn_event.proofs.Nothing.{test_fails}
-use Rattle.legal_programs.specs.sites.Met.{IsCheckMet}
+use Rattle.task_laws.specs.legal.sites.Met.{IsCheckMet}
 use Rattle.normal_laws.specs.structure.asked.Pieces.{IsPlain}
 use Rattle.normal_laws.proofs.structure.checked.Stays.{formal-words}
 use Rattle.normal_laws.proofs.structure.checked.Places.{met-deep, met-name, met-use, met-callee, met-accept, met-exit, met-raise}

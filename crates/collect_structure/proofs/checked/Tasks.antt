@@ -12,7 +12,7 @@ use Rattle.syn_event.specs.declared.limits.What.TheVariants.{Formals}
 use Rattle.syn_event.specs.CheckScope.{CheckScope, CheckSite, declares, needs_body, counts}
 use Rattle.syn_event.specs.CheckSites as check
 use Rattle.syn_event.specs.DeclaredTasks.{text_of}
-use Rattle.legal_programs.proofs.sites.Around.{test-holds}
+use Rattle.task_laws.proofs.legal.sites.Around.{test-holds}
 use Rattle.normal_model.specs.Ranges.{word_at}
 use Rattle.normal_laws.proofs.structure.numbers.Named.{Has}
 use Rattle.normal_laws.proofs.structure.checked.Places.{met-name, passed-not}

@@ -17,7 +17,7 @@ use Rattle.syn_event.specs.CheckScope.{CheckScope, CheckSite}
 use Rattle.syn_event.specs.CheckSites as check
 use Rattle.syn_event.specs.RuleSharedVariable.{shared_name}
 use Rattle.syn_event.specs.DeclaredTasks.{decl_list, tasks_in, tasks_of}
-use Rattle.legal_programs.proofs.sites.Meeting.{all_check_met}
+use Rattle.task_laws.proofs.legal.sites.Meeting.{all_check_met}
 use Rattle.task_model.specs.Setting.{Setting}
 use Rattle.normal_model.specs.NormalTree.{main_unit}
 use Rattle.normal_laws.proofs.structure.numbers.Listed.{IsOneTask, IsOneBody}

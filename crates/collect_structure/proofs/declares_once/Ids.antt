@@ -10,7 +10,7 @@ use Rattle.common_lemmas.proofs.Lists.{holds_at}
 use Rattle.ada_tree.specs.NameList.{predefined}
 use Rattle.ada_tree.specs.PlainProgram.{PProgram}
 use Rattle.ada_static_rules.specs.RuleDuplicate.{is_predefined, is_among}
-use Rattle.legal_programs.proofs.rewritten_values.Saying.{place-within}
+use Rattle.task_laws.proofs.legal.rewritten_values.Saying.{place-within}
 use Rattle.normal_laws.proofs.structure.numbers.Named.{Has}
 use Rattle.normal_laws.specs.structure.once.Apart.{IsFreeOf, AreDistinct}
 use Rattle.replay_structure.proofs.declares_once.Ids.{apart-by}

@@ -18,7 +18,7 @@ use Rattle.syn_event.specs.DeclaredTasks.{decl_list, tasks_in}
 use Rattle.syn_event.proofs.DeclLists.{listed_back}
 use Rattle.syn_event.proofs.Weaker.{placed_tokens}
 use Rattle.task_model.specs.Setting.{Setting}
-use Rattle.legal_programs.specs.rewritten_types.Rewriting.{names_declared}
+use Rattle.task_laws.specs.legal.rewritten_types.Rewriting.{names_declared}
 use Rattle.normal_model.specs.Names.{variable_name, task_name}
 use Rattle.normal_model.specs.RewrittenUnit.{RewrittenUnit}
 use Rattle.normal_model.specs.NormalStmts.{normal_body, unit_variables}

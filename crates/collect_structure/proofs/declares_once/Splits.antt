@@ -13,7 +13,7 @@ use Rattle.ada_decl_rules.specs.duplicates.NamingsInOrder.{declared}
 use Rattle.ada_decl_rules.specs.declared.duplicates.namings_in_order.Naming.{Naming}
 use Rattle.ada_decl_rules.specs.declared.duplicates.namings_in_order.Naming.TheVariants.{Declares, Labels, Once}
 use Rattle.ada_decl_rules.proofs.duplicates.Noting.{declared_append}
-use Rattle.legal_programs.specs.rewritten_types.Rewriting.{names_declared}
+use Rattle.task_laws.specs.legal.rewritten_types.Rewriting.{names_declared}
 use Rattle.normal_laws.specs.structure.once.Apart.{IsFreeOf, AreApart, AreDistinct, fixed_name, fixed_names, loose_names}
 use Rattle.normal_laws.proofs.structure.numbers.Listed.{IsPlain}
 use Rattle.normal_laws.proofs.structure.once.Once.{free-front, free-back, free-both, apart-turned, distinct-front, distinct-back, distinct-apart, distinct-both}

@@ -22,7 +22,7 @@ use Rattle.normal_laws.specs.structure.types.Own.{own_name}
 use Rattle.normal_laws.proofs.structure.types.Names.{variables-begin, names-begin, variable-there}
 use Rattle.normal_laws.proofs.structure.numbers.Named.{text-longer, own-within, own-not-added, begins-within}
 use Rattle.normal_laws.proofs.structure.numbers.TaskNames.{normal-begins}
-use Rattle.legal_programs.proofs.rewritten_values.Saying.{place-within}
+use Rattle.task_laws.proofs.legal.rewritten_values.Saying.{place-within}
 use Rattle.normal_laws.specs.runs.forms.Normalisable.{numbers_of, setting_for, made_for}
 use Rattle.normal_laws.proofs.runs.forms.Names.{more-begin}
 use Rattle.normal_laws.proofs.existence.units.TaskNames.{mark-there}

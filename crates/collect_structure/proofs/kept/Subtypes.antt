@@ -20,14 +20,14 @@ use Rattle.syn_event.specs.NamedTasks.{NamedTasks, type_named, with_type, task_n
 use Rattle.syn_event.specs.CheckScope.{CheckScope, CheckSite}
 use Rattle.syn_event.specs.CheckSites as check
 use Rattle.syn_event.specs.DeclaredTasks.{decl_list, tasks_of}
-use Rattle.legal_programs.specs.sites.Met.{IsCheckMet}
-use Rattle.legal_programs.specs.types.Typed.{IsFirstTask, IsTypedTask, HasTypedTasks}
-use Rattle.legal_programs.proofs.types.TaskTypes.{part-units}
-use Rattle.legal_programs.proofs.rewritten_types.Lookups.{find-all}
+use Rattle.task_laws.specs.legal.sites.Met.{IsCheckMet}
+use Rattle.task_laws.specs.legal.types.Typed.{IsFirstTask, IsTypedTask, HasTypedTasks}
+use Rattle.task_laws.proofs.legal.types.TaskTypes.{part-units}
+use Rattle.task_laws.proofs.legal.rewritten_types.Lookups.{find-all}
 use Rattle.task_model.specs.Setting.{Setting, formals_of_info}
 use Rattle.normal_model.specs.Ranges.{marked, subtype_of_range, array_range, range_of_info, family_range}
 use Rattle.normal_model.specs.Calls.{Slot, slots_of}
-use Rattle.legal_programs.specs.alike_scopes.Old.{IsOldSubind}
+use Rattle.task_laws.specs.legal.alike_scopes.Old.{IsOldSubind}
 use Rattle.normal_laws.proofs.structure.placed.Added.{AreSubtypes}
 use Rattle.normal_laws.proofs.existence.variable_types.Numbers.{EntryRule, IsRuled, IsEntryOf, entry-of, formals-are, range-is}
 use Rattle.normal_laws.proofs.existence.variable_types.Subtypes.{RangeEvery}

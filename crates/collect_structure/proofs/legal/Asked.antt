@@ -15,13 +15,13 @@ use Rattle.ada_static_rules.specs.Refusals.{types_in}
 use Rattle.ada_static_rules.specs.Scope.{Scope, entry_named, meaning}
 use Rattle.ada_static_rules.specs.Sites.{accept_index_sites, all_names, body_sites, callee_sites, condition_sites, formal_mark_sites, formals_sites, handler_names_sites, head_sites, if_there, loop_scope, names_sites, scheme_sites, site, stmt_sites}
 use Rattle.ada_static_rules.specs.StaticValue.{value_named}
-use Rattle.legal_programs.proofs.asked.Placed.{placed_asked}
-use Rattle.legal_programs.proofs.asked.Together.{both_asked}
-use Rattle.legal_programs.proofs.asked.Typed.{typed_asked}
-use Rattle.legal_programs.specs.alike_scopes.Laws.{IsMetBut}
-use Rattle.legal_programs.specs.alike_scopes.Old.{IsOldExpr}
-use Rattle.legal_programs.specs.asked.Asked.{AskedBody, Asks}
-use Rattle.legal_programs.specs.asked.Kinds.{both, place_asks, type_asks}
+use Rattle.task_laws.proofs.legal.asked.Placed.{placed_asked}
+use Rattle.task_laws.proofs.legal.asked.Together.{both_asked}
+use Rattle.task_laws.proofs.legal.asked.Typed.{typed_asked}
+use Rattle.task_laws.specs.legal.alike_scopes.Laws.{IsMetBut}
+use Rattle.task_laws.specs.legal.alike_scopes.Old.{IsOldExpr}
+use Rattle.task_laws.specs.legal.asked.Asked.{AskedBody, Asks}
+use Rattle.task_laws.specs.legal.asked.Kinds.{both, place_asks, type_asks}
 use Rattle.normal_laws.proofs.structure.typed.Stays.{old-expr}
 use Rattle.normal_laws.proofs.structure.typed.Variables.{AllMetBut}
 use Rattle.normal_laws.specs.structure.checked.Around.{own_rules}
@@ -30,7 +30,7 @@ use Rattle.replay_structure.specs.typed.ScopeOf.{AreInner, IsInnerScheme, IsSing
 use Rattle.collect_structure.proofs.legal.Indices.{index_asks}
 use Rattle.collect_structure.specs.scopes.Inner.{AllFree, DeclaresFree, inner_told}
 use Rattle.collect_structure.specs.typed.Told.{told_asks, unhidden}
-use Rattle.replay_is_legal.specs.names.form_units.Inner.{inner_name}
+use Rattle.replay_structure.specs.legal.names.form_units.Inner.{inner_name}
 
 -- names that are old and not inner
 unhidden-expr : (old inner : ℕ → Bool) (e : PExpr) → IsOldExpr old e → IsOldExpr (λ n. not (inner n)) e → IsOldExpr (unhidden old inner) e

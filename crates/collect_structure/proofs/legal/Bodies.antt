@@ -25,7 +25,7 @@ use Rattle.syn_event.specs.DeclaredTasks.{decl_list, tasks_of, text_of}
 use Rattle.syn_event.specs.RuleReservedName.{is_reserved}
 use Rattle.syn_event.specs.declared.numbering.TaskInfo.{TaskInfo}
 use Rattle.task_model.specs.Setting.{Setting}
-use Rattle.legal_programs.specs.asked.Asked.{AskedBody}
+use Rattle.task_laws.specs.legal.asked.Asked.{AskedBody}
 use Rattle.normal_model.proofs.VariablesLemmas.{Begins, begins-trans}
 use Rattle.normal_model.specs.NormalTree.{bodies_of, first_decls, main_unit, main_variables, unit_for}
 use Rattle.normal_model.specs.Ranges.{kind_name}
@@ -58,11 +58,11 @@ use Rattle.collect_structure.specs.Names.{added_id, kept_name}
 use Rattle.collect_structure.specs.scopes.Form.{BodiesTold, DeclaresNew, IsNewName}
 use Rattle.collect_structure.specs.scopes.Inner.{inner_told}
 use Rattle.collect_structure.specs.typed.Told.{AreOuter, told_asks}
-use Rattle.replay_is_legal.proofs.names.Form.{legal_normal_is_form}
-use Rattle.replay_is_legal.proofs.names.form_names.Decls.{body-of}
-use Rattle.replay_is_legal.specs.names.form_names.Laws.{IsNamedBody}
-use Rattle.replay_is_legal.specs.names.form_units.Inner.{inner_name}
-use Rattle.replay_is_legal.specs.names.inner.Units.{HasItsEntries}
+use Rattle.replay_structure.proofs.legal.names.Form.{legal_normal_is_form}
+use Rattle.replay_structure.proofs.legal.names.form_names.Decls.{body-of}
+use Rattle.replay_structure.specs.legal.names.form_names.Laws.{IsNamedBody}
+use Rattle.replay_structure.specs.legal.names.form_units.Inner.{inner_name}
+use Rattle.replay_structure.specs.legal.names.inner.Units.{HasItsEntries}
 use Rattle.seq_file.specs.Known.{is_known}
 use Rattle.normal_laws.proofs.legality.checks.Facts as facts
 

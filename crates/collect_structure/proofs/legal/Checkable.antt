@@ -22,8 +22,8 @@ use Rattle.syn_event.specs.Numbering.{Numbering}
 use Rattle.syn_event.specs.DeclaredTasks.{decl_list}
 use Rattle.seq_file.specs.Known.{is_known}
 use Rattle.task_model.specs.Setting.{Setting}
-use Rattle.legal_programs.specs.rewritten_types.Rewriting.{IsUnused, DeclareOnce}
-use Rattle.legal_programs.proofs.rewritten_types.Refused.{declared_once}
+use Rattle.task_laws.specs.legal.rewritten_types.Rewriting.{IsUnused, DeclareOnce}
+use Rattle.task_laws.proofs.legal.rewritten_types.Refused.{declared_once}
 use Rattle.normal_model.specs.Names.{variable_name}
 use Rattle.normal_model.specs.NormalTree.{first_decls, unless_left, mark_of, main_unit}
 use Rattle.normal_laws.proofs.structure.types.Normal.{normal_agrees}
@@ -41,8 +41,8 @@ use Rattle.replay_structure.proofs.checkable.Form.{main-form, decls-form}
 use Rattle.replay_structure.proofs.checkable.Sorted.{normal-sorted}
 use Rattle.replay_structure.proofs.checkable.Ranges.{ranges-same}
 use Rattle.replay_structure.proofs.checkable.Tasks.{normal-entries, last-number}
-use Rattle.replay_is_legal.proofs.Prepared.{legal_is_prepared}
-use Rattle.replay_is_legal.proofs.names.kept_names.Known.{legal_is_kept}
+use Rattle.replay_structure.proofs.legal.Prepared.{legal_is_prepared}
+use Rattle.replay_structure.proofs.legal.names.kept_names.Known.{legal_is_kept}
 use Rattle.collect_structure.specs.Names.{kept_name, kept_names}
 use Rattle.collect_structure.specs.Laws.{text_for}
 use Rattle.collect_structure.specs.checked.Checkable.{is_truth, IsOtherThanTruths, HasFewFormals, IsCheckable}

@@ -18,7 +18,7 @@ use Rattle.ada_decl_rules.specs.duplicates.NamingsInOrder.{and_then, naming_in, 
 use Rattle.syn_event.specs.DeclaredTasks.{decl_list}
 use Rattle.syn_event.specs.declared.numbering.TaskInfo.{TaskInfo}
 use Rattle.task_model.specs.Setting.{Setting}
-use Rattle.legal_programs.proofs.types.InnerScopes.{AreApart, IsApartLocal}
+use Rattle.task_laws.proofs.legal.types.InnerScopes.{AreApart, IsApartLocal}
 use Rattle.normal_model.specs.NormalStmts.{normal_body}
 use Rattle.normal_model.specs.NormalTree.{bodies_of, main_unit, running, unit_for}
 use Rattle.normal_model.specs.RewrittenUnit.{RewrittenUnit}

@@ -18,9 +18,9 @@ use Rattle.ada_static_rules.specs.Scope.{Scope, meaning}
 use Rattle.ada_static_rules.specs.StaticValue.{is_static, keeps_static, mark_named, value_named}
 use Rattle.syn_event.specs.DeclaredTasks.{decl_list}
 use Rattle.syn_event.specs.declared.numbering.TaskInfo.{TaskInfo}
-use Rattle.legal_programs.specs.alike_scopes.Old.{IsOldExpr}
-use Rattle.legal_programs.specs.asked.Asked.{AskedBody, Asks}
-use Rattle.legal_programs.specs.asked.Kinds.{no_asks}
+use Rattle.task_laws.specs.legal.alike_scopes.Old.{IsOldExpr}
+use Rattle.task_laws.specs.legal.asked.Asked.{AskedBody, Asks}
+use Rattle.task_laws.specs.legal.asked.Kinds.{no_asks}
 use Rattle.normal_model.proofs.VariablesLemmas.{Begins, begins-refl}
 use Rattle.normal_model.specs.Making.{index_left, moving}
 use Rattle.normal_model.specs.Names.{variable_name}
@@ -38,7 +38,7 @@ use Rattle.normal_laws.specs.legality.scopes.Plain.{plain_name}
 use Rattle.normal_laws.specs.runs.forms.Normalisable.{made_for, numbers_of, setting_for}
 use Rattle.normal_laws.specs.structure.asked.Pieces.{Pieces}
 use Rattle.collect_structure.specs.scopes.Inner.{inner_told}
-use Rattle.replay_is_legal.specs.names.form_units.Inner.{inner_name}
+use Rattle.replay_structure.specs.legal.names.form_units.Inner.{inner_name}
 
 module _ (p : PProgram) where
   -- no name in the expression is such as accepts and loops declare

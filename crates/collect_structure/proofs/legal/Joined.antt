@@ -12,7 +12,7 @@ use Rattle.ada_static_rules.specs.Scope.{Scope}
 use Rattle.ada_static_rules.specs.Sites.{body_sites, decls_sites, names_sites, sites}
 use Rattle.syn_event.specs.DeclaredTasks.{decl_list}
 use Rattle.task_model.specs.Setting.{Setting}
-use Rattle.legal_programs.specs.alike_scopes.Laws.{IsMetBut}
+use Rattle.task_laws.specs.legal.alike_scopes.Laws.{IsMetBut}
 use Rattle.normal_laws.proofs.structure.typed.Variables.{AllMetBut, words-met}
 use Rattle.replay_structure.proofs.scopes.Main.{along-join, along-of}
 use Rattle.replay_structure.specs.scopes.Form.{AllAlong}

@@ -27,8 +27,8 @@ use Rattle.syn_event.specs.AllNumbers.{entry_of_task, entries_of_tasks}
 use Rattle.syn_event.specs.DeclaredTasks.{decl_list}
 use Rattle.seq_file.specs.Known.{is_known}
 use Rattle.task_model.specs.Setting.{Setting, entry_of, is_family}
-use Rattle.legal_programs.specs.asked.Asked.{AskedBody}
-use Rattle.legal_programs.specs.alike_scopes.Laws.{IsMetBut}
+use Rattle.task_laws.specs.legal.asked.Asked.{AskedBody}
+use Rattle.task_laws.specs.legal.alike_scopes.Laws.{IsMetBut}
 use Rattle.normal_model.specs.NormalTree.{first_decls, main_variables, main_unit, unit_for}
 use Rattle.normal_model.specs.RewrittenUnit.{RewrittenUnit}
 use Rattle.normal_laws.specs.runs.forms.Normalisable.{numbers_of, setting_for, made_for}
@@ -42,12 +42,12 @@ use Rattle.replay_structure.specs.checkable.Prepared.{form_for}
 use Rattle.replay_structure.specs.scopes.Names.{old_name}
 use Rattle.replay_structure.specs.scopes.Form.{BodyForms, IsForm}
 use Rattle.replay_structure.specs.typed.ScopeOf.{IsEntryOf, IsSingle, form_asks}
-use Rattle.replay_is_legal.specs.fits.Laws.{original_set}
-use Rattle.replay_is_legal.specs.names.form_units.Inner.{inner_name}
-use Rattle.replay_is_legal.proofs.fits.Counted.{tasks-within}
-use Rattle.replay_is_legal.proofs.fits.Whole.{normal_fits}
-use Rattle.replay_is_legal.proofs.placed.Ready.{is-ready}
-use Rattle.replay_is_legal.proofs.names.Form.{legal_normal_is_form}
+use Rattle.replay_structure.specs.legal.fits.Laws.{original_set}
+use Rattle.replay_structure.specs.legal.names.form_units.Inner.{inner_name}
+use Rattle.replay_structure.proofs.legal.fits.Counted.{tasks-within}
+use Rattle.replay_structure.proofs.legal.fits.Whole.{normal_fits}
+use Rattle.replay_structure.proofs.legal.placed.Ready.{is-ready}
+use Rattle.replay_structure.proofs.legal.names.Form.{legal_normal_is_form}
 use Rattle.collect_structure.specs.Laws.{CollectIsPlaced}
 use Rattle.collect_structure.specs.placed.Placeable.{HasLists, tell_asks, TellsDecl, IsCollectPlaceable}
 use Rattle.collect_structure.proofs.placed.Declared.{collect_is_placed}

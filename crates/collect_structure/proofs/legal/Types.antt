@@ -13,7 +13,7 @@ use Rattle.collect_structure.proofs.legal.Listed.{main-variables-added, text-lis
 use Rattle.collect_structure.proofs.legal.Placed.{legal_collect_is_placed}
 use Rattle.collect_structure.proofs.scopes.Whole.{legal_has_told_scopes}
 use Rattle.collect_structure.specs.Laws.{CollectIsAsPromised, CollectIsLegal, CollectMeetsTypes, text_for}
-use Rattle.replay_is_legal.proofs.names.form_names.Whole.{legal_has_form_names}
+use Rattle.replay_structure.proofs.legal.names.form_names.Whole.{legal_has_form_names}
 
 pub collect_meets_types : CollectMeetsTypes
 collect_meets_types p h =

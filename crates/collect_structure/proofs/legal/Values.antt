@@ -14,15 +14,15 @@ use Rattle.ada_static_rules.specs.Refusals.{types_in}
 use Rattle.ada_static_rules.specs.Declaring.{with_types, constant_mark, constant_value, add_constants, with_constants, task_object, task_array, object_meaning, plain_object, array_object, declared_object, after_object, after_decl, after_decls, first_scope, drange_range, made_subind, made_array}
 use Rattle.syn_event.specs.Extents.{fixed, unraised_value}
 use Rattle.syn_event.specs.Numbering.{Numbering}
-use Rattle.legal_programs.specs.rewritten_types.Agreement.{Keeps, Rooted}
-use Rattle.legal_programs.specs.rewritten_types.Rewriting.{IsAdded}
-use Rattle.legal_programs.specs.rewritten_types.Laws.{behind}
-use Rattle.legal_programs.specs.alike_scopes.Alike.{SameTypes}
-use Rattle.legal_programs.specs.alike_scopes.Old.{IsOldExpr}
-use Rattle.legal_programs.proofs.rewritten_types.Keeping.{keeps-self, keeps-on}
-use Rattle.legal_programs.proofs.rewritten_types.Adding.{names-types, keeps-shape, keeps-decl}
-use Rattle.legal_programs.proofs.alike_scopes.Tables.{rooted_is_same}
-use Rattle.legal_programs.proofs.alike_scopes.Exprs.{static-same, value-same}
+use Rattle.task_laws.specs.legal.rewritten_types.Agreement.{Keeps, Rooted}
+use Rattle.task_laws.specs.legal.rewritten_types.Rewriting.{IsAdded}
+use Rattle.task_laws.specs.legal.rewritten_types.Laws.{behind}
+use Rattle.task_laws.specs.legal.alike_scopes.Alike.{SameTypes}
+use Rattle.task_laws.specs.legal.alike_scopes.Old.{IsOldExpr}
+use Rattle.task_laws.proofs.legal.rewritten_types.Keeping.{keeps-self, keeps-on}
+use Rattle.task_laws.proofs.legal.rewritten_types.Adding.{names-types, keeps-shape, keeps-decl}
+use Rattle.task_laws.proofs.legal.alike_scopes.Tables.{rooted_is_same}
+use Rattle.task_laws.proofs.legal.alike_scopes.Exprs.{static-same, value-same}
 use Rattle.normal_model.specs.NormalTree.{first_decls, main_unit, normal_tree}
 use Rattle.normal_model.proofs.WalkLemmas.{listed-front}
 use Rattle.normal_laws.specs.structure.types.Own.{own_name}

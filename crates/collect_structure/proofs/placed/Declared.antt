@@ -17,10 +17,10 @@ use Rattle.common_lemmas.proofs.Lists.{all_joined, all_kept}
 use Rattle.task_model.specs.Setting.{Setting}
 use Rattle.normal_model.specs.NormalTree.{main_unit, unit_for}
 use Rattle.normal_model.specs.RewrittenUnit.{RewrittenUnit}
-use Rattle.legal_programs.specs.asked.Asked.{AskedBody}
-use Rattle.legal_programs.specs.asked.Kinds.{place_asks, both}
-use Rattle.legal_programs.proofs.asked.Placed.{placed_asked, asked_placed}
-use Rattle.legal_programs.proofs.asked.Together.{both_asked}
+use Rattle.task_laws.specs.legal.asked.Asked.{AskedBody}
+use Rattle.task_laws.specs.legal.asked.Kinds.{place_asks, both}
+use Rattle.task_laws.proofs.legal.asked.Placed.{placed_asked, asked_placed}
+use Rattle.task_laws.proofs.legal.asked.Together.{both_asked}
 use Rattle.normal_laws.proofs.structure.placed.Whole.{placed-with}
 use Rattle.replay_model.specs.ReplayTree.{is_task, is_body, last_task}
 use Rattle.replay_structure.specs.placed.Fitting.{IsShallow, fit_asks}

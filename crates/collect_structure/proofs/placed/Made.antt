@@ -17,8 +17,8 @@ use Rattle.normal_model.specs.Ranges.{word_at, kind_of_range, family_range}
 use Rattle.normal_model.specs.Calls.{entry_called, lists_called}
 use Rattle.normal_model.specs.RewrittenUnit.{RewrittenUnit}
 use Rattle.normal_model.specs.Walk.{after_stmts, inside_handlers}
-use Rattle.legal_programs.specs.asked.Asked.{Asks}
-use Rattle.legal_programs.specs.asked.Kinds.{place_asks, both}
+use Rattle.task_laws.specs.legal.asked.Asked.{Asks}
+use Rattle.task_laws.specs.legal.asked.Kinds.{place_asks, both}
 use Rattle.normal_laws.specs.structure.placed.Placeable.{IsName}
 use Rattle.replay_model.specs.Asking.{as_number, number_in, member_number}
 use Rattle.replay_structure.specs.asked.Pieces.{StandsNear}

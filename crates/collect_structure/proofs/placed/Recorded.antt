@@ -10,8 +10,8 @@ use Rattle.ada_tree.specs.PlainStmt.{PWords, PValue}
 use Rattle.ada_tree.specs.Every.{Rules, EveryWord, EveryExpr, EveryPart, EveryChoice, EveryFormal, EveryEntry, EveryPriority, EveryDecl}
 use Rattle.ada_tree.specs.WellPlaced.{well_placed}
 use Rattle.task_model.specs.Setting.{Setting}
-use Rattle.legal_programs.specs.asked.Kinds.{place_asks}
-use Rattle.legal_programs.proofs.asked.Placed.{asked_placed}
+use Rattle.task_laws.specs.legal.asked.Kinds.{place_asks}
+use Rattle.task_laws.proofs.legal.asked.Placed.{asked_placed}
 use Rattle.normal_model.specs.Ranges.{word_at}
 use Rattle.normal_laws.specs.structure.placed.Placeable.{IsName}
 use Rattle.collect_model.specs.declared.AddedNames.{AddedNames}

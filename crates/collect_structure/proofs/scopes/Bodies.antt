@@ -12,17 +12,17 @@ use Rattle.ada_static_rules.specs.Sites.{own_sites, body_sites, decl_sites}
 use Rattle.syn_event.specs.DeclaredTasks.{decl_list}
 use Rattle.syn_event.proofs.DeclLists.{list_again}
 use Rattle.task_model.specs.Setting.{Setting}
-use Rattle.legal_programs.proofs.rewritten_types.Keeping.{keeps-self}
-use Rattle.legal_programs.proofs.rewritten_types.Adding.{keeps-objects}
-use Rattle.legal_programs.proofs.alike_scopes.Exprs.{mark-kind-same}
-use Rattle.legal_programs.specs.alike_scopes.Laws.{IsMetBut}
+use Rattle.task_laws.proofs.legal.rewritten_types.Keeping.{keeps-self}
+use Rattle.task_laws.proofs.legal.rewritten_types.Adding.{keeps-objects}
+use Rattle.task_laws.proofs.legal.alike_scopes.Exprs.{mark-kind-same}
+use Rattle.task_laws.specs.legal.alike_scopes.Laws.{IsMetBut}
 use Rattle.normal_model.specs.Ranges.{kind_name}
 use Rattle.normal_model.specs.NormalTree.{main_unit}
 use Rattle.normal_laws.proofs.structure.typed.Places.{gives-met}
 use Rattle.normal_laws.proofs.structure.typed.Variables.{AllMetBut}
 use Rattle.replay_structure.specs.typed.ScopeOf.{IsCountedBy, as_itself, by_position, IsEntryOf}
 use Rattle.replay_structure.specs.scopes.Form.{AllAlong}
-use Rattle.replay_is_legal.specs.names.inner.Units.{HasItsEntries}
+use Rattle.replay_structure.specs.legal.names.inner.Units.{HasItsEntries}
 use Rattle.ada_static_rules.proofs.found_twice.Declared.{objects_own}
 use Rattle.collect_model.specs.Names.{caller_text, answer_text, part_text, recorder_text}
 use Rattle.collect_model.specs.Teller.{Teller, task_of, teller_at, teller_in}

@@ -13,16 +13,16 @@ use Rattle.ada_tree.specs.PlainDecl.{PShape, PInit, PEntry, PTask, PDecl, DTask,
 use Rattle.ada_tree.specs.PlainProgram.{PProgram}
 use Rattle.ada_static_rules.specs.Scope.{Scope, Thing, SingleTask, EntryPart, FormalPart, integer_kind, meaning, marking, scalar_kind}
 use Rattle.ada_static_rules.specs.Declaring.{with_name, with_names, with_types, inner_scope, in_body, family_of, entry_family, formal_parts, entry_part, task_thing, own_entries, declared_object, with_constants, after_object, after_decl}
-use Rattle.legal_programs.specs.rewritten_types.Agreement.{Keeps}
-use Rattle.legal_programs.specs.rewritten_types.Rewriting.{IsNew, IsAdded, names_declared}
-use Rattle.legal_programs.proofs.rewritten_types.Keeping.{keeps-self}
-use Rattle.legal_programs.proofs.rewritten_types.Adding.{names-main, keeps-shape, keeps-objects, keeps-decl}
-use Rattle.legal_programs.specs.alike_scopes.Alike.{no_values, SameThing, SameNames}
-use Rattle.legal_programs.specs.alike_scopes.Old.{IsOldDrange, AreOldFormals}
-use Rattle.legal_programs.proofs.alike_scopes.Exprs.{mark-kind-same, dranges_are_same}
-use Rattle.legal_programs.proofs.alike_scopes.Naming.{name-both, names-both, tables-kept}
-use Rattle.legal_programs.proofs.alike_scopes.Objects.{SameDeclared}
-use Rattle.legal_programs.proofs.alike_scopes.Mains.{task-none}
+use Rattle.task_laws.specs.legal.rewritten_types.Agreement.{Keeps}
+use Rattle.task_laws.specs.legal.rewritten_types.Rewriting.{IsNew, IsAdded, names_declared}
+use Rattle.task_laws.proofs.legal.rewritten_types.Keeping.{keeps-self}
+use Rattle.task_laws.proofs.legal.rewritten_types.Adding.{names-main, keeps-shape, keeps-objects, keeps-decl}
+use Rattle.task_laws.specs.legal.alike_scopes.Alike.{no_values, SameThing, SameNames}
+use Rattle.task_laws.specs.legal.alike_scopes.Old.{IsOldDrange, AreOldFormals}
+use Rattle.task_laws.proofs.legal.alike_scopes.Exprs.{mark-kind-same, dranges_are_same}
+use Rattle.task_laws.proofs.legal.alike_scopes.Naming.{name-both, names-both, tables-kept}
+use Rattle.task_laws.proofs.legal.alike_scopes.Objects.{SameDeclared}
+use Rattle.task_laws.proofs.legal.alike_scopes.Mains.{task-none}
 use Rattle.normal_laws.proofs.structure.typed.Scopes.{differ, meaning-more}
 use Rattle.replay_structure.specs.scopes.More.{is_single}
 use Rattle.replay_structure.specs.scopes.Form.{IsOldEntry}

@@ -13,15 +13,15 @@ use Rattle.ada_static_rules.specs.StaticValue.{value_named}
 use Rattle.ada_static_rules.specs.Declaring.{with_name, add_constants, constant_mark, constant_value, with_constants, Declared, declared_object, after_own_object, after_objects, after_decl}
 use Rattle.ada_static_rules.specs.Sites.{own_object_sites, own_sites}
 use Rattle.task_model.specs.Setting.{Setting}
-use Rattle.legal_programs.specs.rewritten_types.Agreement.{Keeps}
-use Rattle.legal_programs.proofs.rewritten_types.Keeping.{keeps-self, grows-self}
-use Rattle.legal_programs.proofs.rewritten_types.Adding.{keeps-shape, keeps-objects}
-use Rattle.legal_programs.specs.alike_scopes.Alike.{SameTypes}
-use Rattle.legal_programs.specs.alike_scopes.Laws.{IsMetBut}
-use Rattle.legal_programs.proofs.alike_scopes.Inner.{own-object-main}
-use Rattle.legal_programs.proofs.alike_scopes.Naming.{tables-kept}
-use Rattle.legal_programs.proofs.alike_scopes.Objects.{declared-same}
-use Rattle.legal_programs.proofs.alike_scopes.Tables.{value-kept}
+use Rattle.task_laws.specs.legal.rewritten_types.Agreement.{Keeps}
+use Rattle.task_laws.proofs.legal.rewritten_types.Keeping.{keeps-self, grows-self}
+use Rattle.task_laws.proofs.legal.rewritten_types.Adding.{keeps-shape, keeps-objects}
+use Rattle.task_laws.specs.legal.alike_scopes.Alike.{SameTypes}
+use Rattle.task_laws.specs.legal.alike_scopes.Laws.{IsMetBut}
+use Rattle.task_laws.proofs.legal.alike_scopes.Inner.{own-object-main}
+use Rattle.task_laws.proofs.legal.alike_scopes.Naming.{tables-kept}
+use Rattle.task_laws.proofs.legal.alike_scopes.Objects.{declared-same}
+use Rattle.task_laws.proofs.legal.alike_scopes.Tables.{value-kept}
 use Rattle.normal_model.specs.Ranges.{word_at}
 use Rattle.collect_model.specs.declared.AddedNames.{AddedNames}
 use Rattle.normal_laws.proofs.structure.typed.Declared.{thing-init}

@@ -22,15 +22,15 @@ use Rattle.syn_event.specs.Numbering.{Numbering}
 use Rattle.syn_event.specs.DeclaredTasks.{decl_list}
 use Rattle.syn_event.proofs.DeclLists.{every_listed, list_again}
 use Rattle.task_model.specs.Setting.{Setting}
-use Rattle.legal_programs.specs.rewritten_types.Rewriting.{IsUnused, DeclareOnce, NamesOnce, names_declared}
-use Rattle.legal_programs.proofs.rewritten_types.Keeping.{grows-self}
-use Rattle.legal_programs.proofs.rewritten_types.Refused.{declared_once}
-use Rattle.legal_programs.specs.alike_scopes.Alike.{SameNames}
-use Rattle.legal_programs.specs.alike_scopes.Old.{IsOldDrange}
-use Rattle.legal_programs.proofs.alike_scopes.Tables.{value-kept}
-use Rattle.legal_programs.proofs.types.MainScopes.{StandsWhole, last-stands}
-use Rattle.legal_programs.proofs.types.LaterScopes.{valued-means}
-use Rattle.legal_programs.proofs.types.TypedValues.{anybody}
+use Rattle.task_laws.specs.legal.rewritten_types.Rewriting.{IsUnused, DeclareOnce, NamesOnce, names_declared}
+use Rattle.task_laws.proofs.legal.rewritten_types.Keeping.{grows-self}
+use Rattle.task_laws.proofs.legal.rewritten_types.Refused.{declared_once}
+use Rattle.task_laws.specs.legal.alike_scopes.Alike.{SameNames}
+use Rattle.task_laws.specs.legal.alike_scopes.Old.{IsOldDrange}
+use Rattle.task_laws.proofs.legal.alike_scopes.Tables.{value-kept}
+use Rattle.task_laws.proofs.legal.types.MainScopes.{StandsWhole, last-stands}
+use Rattle.task_laws.proofs.legal.types.LaterScopes.{valued-means}
+use Rattle.task_laws.proofs.legal.types.TypedValues.{anybody}
 use Rattle.normal_model.specs.NormalTree.{first_decls, main_unit}
 use Rattle.normal_laws.specs.structure.numbers.Single.{IsSingle}
 use Rattle.normal_laws.specs.structure.checked.Around.{own_rules}
@@ -49,10 +49,10 @@ use Rattle.normal_laws.proofs.legality.scopes.Main as main
 use Rattle.replay_model.specs.ReplayTree.{is_added_object, is_task}
 use Rattle.replay_structure.specs.checkable.Prepared.{form_for}
 use Rattle.replay_structure.specs.scopes.Form.{IsOldEntry, IsVariableOf, first}
-use Rattle.replay_is_legal.proofs.names.form_names.Decls.{variable-of}
-use Rattle.replay_is_legal.proofs.names.form_names.TypeNames.{kinds-own}
-use Rattle.replay_is_legal.proofs.names.form_scopes.Joined.{tasks-are}
-use Rattle.replay_is_legal.proofs.names.form_scopes.Selves.{IsSelf, self-names, self-first}
+use Rattle.replay_structure.proofs.legal.names.form_names.Decls.{variable-of}
+use Rattle.replay_structure.proofs.legal.names.form_names.TypeNames.{kinds-own}
+use Rattle.replay_structure.proofs.legal.names.form_scopes.Joined.{tasks-are}
+use Rattle.replay_structure.proofs.legal.names.form_scopes.Selves.{IsSelf, self-names, self-first}
 use Rattle.collect_model.specs.Names.{added_texts}
 use Rattle.collect_structure.specs.Names.{new_texts, added_id, kept_name}
 use Rattle.collect_structure.specs.scopes.Language.{KnowsLanguage}

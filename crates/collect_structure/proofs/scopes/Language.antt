@@ -14,13 +14,13 @@ use Rattle.ada_static_rules.specs.Declaring.{add_kind, add_mark, after_decl, aft
 use Rattle.ada_static_rules.specs.RuleDuplicate.{is_predefined}
 use Rattle.ada_static_rules.specs.Scope.{AnException, AnotherUnit, Literal, Scope, Thing, TypeMark, integer_kind, marking, meaning, scalar_kind}
 use Rattle.ada_static_rules.specs.StaticValue.{is_named, mark_named}
-use Rattle.legal_programs.proofs.alike_scopes.Marks.{scalar-grown}
-use Rattle.legal_programs.proofs.rewritten_types.Keeping.{grows-on, grows-self}
-use Rattle.legal_programs.proofs.rewritten_types.Lookups.{find-grown}
-use Rattle.legal_programs.proofs.types.GoodDeclarations.{grows-decl}
-use Rattle.legal_programs.proofs.types.GoodScopes.{names-kept}
-use Rattle.legal_programs.specs.rewritten_types.Agreement.{Grows}
-use Rattle.legal_programs.specs.rewritten_types.Rewriting.{names_declared}
+use Rattle.task_laws.proofs.legal.alike_scopes.Marks.{scalar-grown}
+use Rattle.task_laws.proofs.legal.rewritten_types.Keeping.{grows-on, grows-self}
+use Rattle.task_laws.proofs.legal.rewritten_types.Lookups.{find-grown}
+use Rattle.task_laws.proofs.legal.types.GoodDeclarations.{grows-decl}
+use Rattle.task_laws.proofs.legal.types.GoodScopes.{names-kept}
+use Rattle.task_laws.specs.legal.rewritten_types.Agreement.{Grows}
+use Rattle.task_laws.specs.legal.rewritten_types.Rewriting.{names_declared}
 use Rattle.normal_laws.proofs.structure.typed.Literals.{integer-marked}
 use Rattle.normal_laws.proofs.structure.typed.Scopes.{meaning-more}
 use Rattle.collect_structure.specs.scopes.Form.{DeclaresNew, IsNewName}

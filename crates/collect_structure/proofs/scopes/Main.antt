@@ -15,12 +15,12 @@ use Rattle.ada_static_rules.specs.Declaring.{add_constants, constant_mark, const
 use Rattle.ada_static_rules.specs.RuleDuplicate.{is_predefined}
 use Rattle.ada_static_rules.specs.Sites.{decl_sites}
 use Rattle.task_model.specs.Setting.{Setting}
-use Rattle.legal_programs.specs.rewritten_types.Agreement.{Keeps}
-use Rattle.legal_programs.proofs.rewritten_types.Adding.{keeps-shape, keeps-decl}
-use Rattle.legal_programs.proofs.rewritten_types.Keeping.{keeps-self}
-use Rattle.legal_programs.specs.alike_scopes.Alike.{SameTypes}
-use Rattle.legal_programs.proofs.alike_scopes.Naming.{tables-kept}
-use Rattle.legal_programs.proofs.alike_scopes.Tables.{value-kept}
+use Rattle.task_laws.specs.legal.rewritten_types.Agreement.{Keeps}
+use Rattle.task_laws.proofs.legal.rewritten_types.Adding.{keeps-shape, keeps-decl}
+use Rattle.task_laws.proofs.legal.rewritten_types.Keeping.{keeps-self}
+use Rattle.task_laws.specs.legal.alike_scopes.Alike.{SameTypes}
+use Rattle.task_laws.proofs.legal.alike_scopes.Naming.{tables-kept}
+use Rattle.task_laws.proofs.legal.alike_scopes.Tables.{value-kept}
 use Rattle.normal_model.specs.Ranges.{word_at}
 use Rattle.normal_model.specs.NormalTree.{main_unit}
 use Rattle.normal_laws.proofs.structure.typed.Declared.{thing-init}

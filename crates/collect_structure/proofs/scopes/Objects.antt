@@ -11,10 +11,10 @@ use Rattle.ada_static_rules.specs.Scope.{Scope, Range, Marking, marking}
 use Rattle.ada_static_rules.specs.Demand.{must_be_static, must_lie_in, initializes, for_scalar, for_array}
 use Rattle.ada_static_rules.specs.Declaring.{Declared}
 use Rattle.ada_static_rules.specs.Sites.{site, if_there, is_task_object, names_sites, expr_sites, static_of, subind_sites, drange_sites, may_be_task, object_marks, component_marks, shape_sites, value_sites, free_value_sites, all_init_sites, array_init_sites, scalar_init_sites, object_marking, init_sites, object_sites}
-use Rattle.legal_programs.specs.rewritten_types.Rewriting.{is_no_task, mark_of}
-use Rattle.legal_programs.specs.alike_scopes.Alike.{SameNames}
-use Rattle.legal_programs.specs.alike_scopes.Old.{IsOldExpr, IsOldShape, allows_task}
-use Rattle.legal_programs.specs.alike_scopes.Laws.{IsMetBut}
+use Rattle.task_laws.specs.legal.rewritten_types.Rewriting.{is_no_task, mark_of}
+use Rattle.task_laws.specs.legal.alike_scopes.Alike.{SameNames}
+use Rattle.task_laws.specs.legal.alike_scopes.Old.{IsOldExpr, IsOldShape, allows_task}
+use Rattle.task_laws.specs.legal.alike_scopes.Laws.{IsMetBut}
 use Rattle.normal_laws.proofs.structure.typed.Declared.{SameInit, both_values, both_arrays, both_free, IsOldInit}
 use Rattle.normal_laws.proofs.structure.typed.Variables.{AllMetBut, words-met}
 use Rattle.collect_structure.proofs.typed.Typed.{same}

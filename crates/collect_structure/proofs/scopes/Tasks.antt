@@ -13,8 +13,8 @@ use Rattle.ada_static_rules.specs.Demand.{scalar_only}
 use Rattle.ada_static_rules.specs.Declaring.{inner_scope}
 use Rattle.ada_static_rules.specs.Sites.{if_there, names_sites, entry_sites, all_names, static_of, drange_sites, formal_mark_sites, formals_sites, entries_sites, decl_sites}
 use Rattle.normal_laws.specs.structure.checked.Around.{own_rules}
-use Rattle.legal_programs.specs.alike_scopes.Alike.{SameNames}
-use Rattle.legal_programs.specs.alike_scopes.Laws.{IsMetBut}
+use Rattle.task_laws.specs.legal.alike_scopes.Alike.{SameNames}
+use Rattle.task_laws.specs.legal.alike_scopes.Laws.{IsMetBut}
 use Rattle.normal_laws.specs.structure.typed.ScopeOf.{MeansInteger}
 use Rattle.normal_laws.proofs.structure.typed.Variables.{AllMetBut, words-met}
 use Rattle.normal_laws.proofs.structure.typed.Stays.{old-expr, old-drange, old-formals}

@@ -8,8 +8,8 @@ use Rattle.ada_static_rules.specs.Scope.{Scope}
 use Rattle.ada_static_rules.specs.Declaring.{first_scope, inner_scope, after_decl}
 use Rattle.syn_event.specs.DeclaredTasks.{decl_list}
 use Rattle.task_model.specs.Setting.{Setting}
-use Rattle.legal_programs.specs.rewritten_types.Agreement.{Keeps}
-use Rattle.legal_programs.proofs.rewritten_types.Adding.{keeps-decl}
+use Rattle.task_laws.specs.legal.rewritten_types.Agreement.{Keeps}
+use Rattle.task_laws.proofs.legal.rewritten_types.Adding.{keeps-decl}
 use Rattle.replay_model.specs.ReplayTree.{is_task, is_body}
 use Rattle.replay_structure.specs.scopes.Form.{varied, tasked, last}
 use Rattle.replay_structure.proofs.scopes.Main.{decls-own}

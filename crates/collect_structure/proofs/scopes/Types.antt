@@ -11,13 +11,13 @@ use Rattle.ada_tree.specs.PlainExpr.{PSubind}
 use Rattle.ada_tree.specs.PlainDecl.{PShape, OPlain, OArray, PDecl, DNumber, DObject, DEnumeration, DArray, DSubtype, DException, DIntIo, DPragma, DTask, DTaskBody, decls_of}
 use Rattle.ada_static_rules.specs.Scope.{Scope, Range, Thing, TypeMark, TaskType, SingleTask, TaskObject, TaskArray, Variable, ConstantObject, Parameter, LoopParameter, Literal, AnException, MainProcedure, AnotherUnit, Unclear, EntryPart, Marking, ScalarMark, ArrayMark, TaskMark, NoMark, UnknownMark, UnclearMark, marking, marking_of, marking_of_mark, marking_of_kind, kind_at, mark_at, meaning}
 use Rattle.ada_static_rules.specs.Declaring.{with_name, with_names, with_types, add_mark, add_kind, type_of_mark, object_meaning, task_object, task_array, Made, made_subind, made_array, made_named_array, made_subtype, drange_range, of_made, plain_object, array_object, Declared, declared_object, with_constants, entry_part, task_thing, first_scope, after_decl, after_decls}
-use Rattle.legal_programs.specs.rewritten_types.Rewriting.{is_no_task}
-use Rattle.legal_programs.specs.alike_scopes.Alike.{SameMark, of_values, of_arrays, SameThing, same_variable, same_unclear, SameNames}
-use Rattle.legal_programs.specs.alike_scopes.Old.{IsOldSubind}
-use Rattle.legal_programs.proofs.alike_scopes.Examples.{meant}
-use Rattle.legal_programs.proofs.alike_scopes.Exprs.{mark-same}
-use Rattle.legal_programs.proofs.alike_scopes.Readings.{IsNoMark, is_task_mark, is_no_mark, is_unknown_mark, SameMarking, both_scalars, both_arrays, both_no_marks, both_unclear_marks}
-use Rattle.legal_programs.proofs.alike_scopes.Objects.{SameMade, made_both, made_neither, made-same, SameDeclared}
+use Rattle.task_laws.specs.legal.rewritten_types.Rewriting.{is_no_task}
+use Rattle.task_laws.specs.legal.alike_scopes.Alike.{SameMark, of_values, of_arrays, SameThing, same_variable, same_unclear, SameNames}
+use Rattle.task_laws.specs.legal.alike_scopes.Old.{IsOldSubind}
+use Rattle.task_laws.proofs.legal.alike_scopes.Examples.{meant}
+use Rattle.task_laws.proofs.legal.alike_scopes.Exprs.{mark-same}
+use Rattle.task_laws.proofs.legal.alike_scopes.Readings.{IsNoMark, is_task_mark, is_no_mark, is_unknown_mark, SameMarking, both_scalars, both_arrays, both_no_marks, both_unclear_marks}
+use Rattle.task_laws.proofs.legal.alike_scopes.Objects.{SameMade, made_both, made_neither, made-same, SameDeclared}
 use Rattle.normal_laws.specs.structure.numbers.Single.{IsSingle}
 use Rattle.normal_laws.proofs.structure.typed.Scopes.{meaning-more}
 use Rattle.collect_structure.specs.scopes.Form.{is_task_type, SeesNoType}

@@ -4,8 +4,8 @@ use Rattle.common_lemmas.proofs.Numbers.{equal_self}
 use Rattle.ada_tree.specs.declared.naming.NameId.{NameId}
 use Rattle.ada_tree.specs.PlainProgram.{PProgram}
 use Rattle.ada_static_rules.specs.Scope.{Scope, meaning}
-use Rattle.legal_programs.specs.rewritten_types.Agreement.{Keeps}
-use Rattle.legal_programs.proofs.alike_scopes.Tables.{value-kept}
+use Rattle.task_laws.specs.legal.rewritten_types.Agreement.{Keeps}
+use Rattle.task_laws.proofs.legal.alike_scopes.Tables.{value-kept}
 use Rattle.replay_structure.specs.typed.ScopeOf.{IsNumber}
 use Rattle.replay_structure.proofs.scopes.Permit.{only, number-step}
 use Rattle.collect_model.specs.Names.{answer_text, part_text}

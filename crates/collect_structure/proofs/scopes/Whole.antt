@@ -9,9 +9,9 @@ use Rattle.normal_laws.proofs.structure.numbers.Listed.{first-plain}
 use Rattle.normal_laws.specs.runs.forms.Normalisable.{setting_for, made_for}
 use Rattle.normal_laws.specs.existence.Laws.{IsLegalOriginal}
 use Rattle.replay_structure.specs.checkable.Prepared.{form_for}
-use Rattle.replay_is_legal.proofs.names.form_names.Whole.{legal_has_form_names}
-use Rattle.replay_is_legal.proofs.names.form_scopes.Joined.{form-parted}
-use Rattle.replay_is_legal.proofs.names.form_scopes.Unseen.{decls-none, first-none}
+use Rattle.replay_structure.proofs.legal.names.form_names.Whole.{legal_has_form_names}
+use Rattle.replay_structure.proofs.legal.names.form_scopes.Joined.{form-parted}
+use Rattle.replay_structure.proofs.legal.names.form_scopes.Unseen.{decls-none, first-none}
 use Rattle.collect_model.specs.Names.{answer_text, part_text}
 use Rattle.collect_structure.specs.Names.{added_id, kept_name}
 use Rattle.collect_structure.specs.scopes.Inner.{inner_told}

@@ -16,11 +16,11 @@ use Rattle.task_model.specs.Setting.{Setting}
 use Rattle.normal_model.specs.NormalTree.{first_decls, main_unit, normal_tree}
 use Rattle.normal_model.proofs.VariablesLemmas.{Begins, begins-trans}
 use Rattle.normal_model.proofs.WalkLemmas.{listed-front}
-use Rattle.legal_programs.specs.rewritten_types.Agreement.{Rooted}
-use Rattle.legal_programs.specs.rewritten_types.Rewriting.{IsAdded, AreAdded}
-use Rattle.legal_programs.specs.rewritten_types.Laws.{behind}
-use Rattle.legal_programs.proofs.rewritten_types.Rooting.{rewritten_is_rooted, rooted_agrees}
-use Rattle.legal_programs.specs.rewritten_values.Values.{old_names}
+use Rattle.task_laws.specs.legal.rewritten_types.Agreement.{Rooted}
+use Rattle.task_laws.specs.legal.rewritten_types.Rewriting.{IsAdded, AreAdded}
+use Rattle.task_laws.specs.legal.rewritten_types.Laws.{behind}
+use Rattle.task_laws.proofs.legal.rewritten_types.Rooting.{rewritten_is_rooted, rooted_agrees}
+use Rattle.task_laws.specs.legal.rewritten_values.Values.{old_names}
 use Rattle.normal_laws.specs.structure.types.Own.{own_name}
 use Rattle.normal_laws.specs.structure.types.Laws.{setting_of, AreOwn}
 use Rattle.normal_laws.proofs.structure.types.Names.{fold-begins, added_names_are_new}

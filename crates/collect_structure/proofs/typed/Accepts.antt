@@ -14,9 +14,9 @@ use Rattle.ada_static_rules.specs.Demand.{scalar_only, Site}
 use Rattle.ada_static_rules.specs.RuleArgCount.{written_formals, are_same, fits_accept, wrong_accept}
 use Rattle.ada_static_rules.specs.Sites.{if_there, names_sites, expr_of, all_names, formal_mark_sites, formals_sites, accept_index_sites, head_sites}
 use Rattle.task_model.specs.Setting.{Setting, entry_of}
-use Rattle.legal_programs.specs.alike_scopes.Alike.{SameNames}
-use Rattle.legal_programs.specs.alike_scopes.Old.{IsOldExpr}
-use Rattle.legal_programs.specs.alike_scopes.Laws.{IsMetBut}
+use Rattle.task_laws.specs.legal.alike_scopes.Alike.{SameNames}
+use Rattle.task_laws.specs.legal.alike_scopes.Old.{IsOldExpr}
+use Rattle.task_laws.specs.legal.alike_scopes.Laws.{IsMetBut}
 use Rattle.normal_laws.specs.structure.checked.Around.{own_rules}
 use Rattle.normal_laws.proofs.structure.typed.Calls.{fits-told, as_family}
 use Rattle.normal_laws.proofs.structure.typed.Stays.{old-option, old-formals}

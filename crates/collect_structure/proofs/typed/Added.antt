@@ -17,9 +17,9 @@ use Rattle.ada_static_rules.specs.RuleDuplicate.{is_predefined}
 use Rattle.ada_static_rules.specs.Scope.{ScalarMark, Scope, Thing, TypeMark, Variable, integer_kind, mark_at, marking_of, marking_of_mark, meaning, truth_kind}
 use Rattle.ada_static_rules.specs.Sites.{all_names, decl_sites, drange_sites, entries_sites, formal_mark_sites, formals_sites, names_sites, site, subind_sites}
 use Rattle.ada_static_rules.specs.StaticValue.{value_named}
-use Rattle.legal_programs.proofs.alike_scopes.Marks.{scalar-grown}
-use Rattle.legal_programs.specs.alike_scopes.Laws.{IsMetBut}
-use Rattle.legal_programs.specs.rewritten_types.Agreement.{Keeps}
+use Rattle.task_laws.proofs.legal.alike_scopes.Marks.{scalar-grown}
+use Rattle.task_laws.specs.legal.alike_scopes.Laws.{IsMetBut}
+use Rattle.task_laws.specs.legal.rewritten_types.Agreement.{Keeps}
 use Rattle.normal_model.specs.Ranges.{truth_subtype, word_at}
 use Rattle.normal_laws.proofs.structure.typed.Literals.{integer-marked, plain-fixed}
 use Rattle.normal_laws.proofs.structure.typed.Places.{met-declares, met-static}

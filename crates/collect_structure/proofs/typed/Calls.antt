@@ -14,9 +14,9 @@ use Rattle.ada_static_rules.specs.RuleArgCount.{at_place, index_of_callee, fits_
 use Rattle.ada_static_rules.specs.RuleUnknown.{unknown_entry}
 use Rattle.ada_static_rules.specs.Sites.{if_there, expr_sites, expr_of, callee_sites, actuals_sites, args_sites}
 use Rattle.task_model.specs.Setting.{Setting, is_family, first_expr, lists_in, lists_of}
-use Rattle.legal_programs.specs.alike_scopes.Alike.{IsSameTask}
-use Rattle.legal_programs.specs.alike_scopes.Laws.{IsMetBut}
-use Rattle.legal_programs.proofs.alike_scopes.Calls.{tasks_refuse_same}
+use Rattle.task_laws.specs.legal.alike_scopes.Alike.{IsSameTask}
+use Rattle.task_laws.specs.legal.alike_scopes.Laws.{IsMetBut}
+use Rattle.task_laws.proofs.legal.alike_scopes.Calls.{tasks_refuse_same}
 use Rattle.normal_laws.proofs.structure.typed.Calls.{fits-told, entry-there, as_family}
 use Rattle.normal_laws.proofs.structure.typed.Variables.{AllMetBut}
 use Rattle.replay_model.specs.Asking.{member_number}

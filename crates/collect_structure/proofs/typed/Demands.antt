@@ -18,14 +18,14 @@ use Rattle.ada_static_rules.specs.RuleNotVariable.{unless, whole_written}
 use Rattle.ada_static_rules.specs.RuleRangeBad.{is_below, empty_range, is_outside, out_of}
 use Rattle.ada_static_rules.specs.RuleReadOut.{read_out}
 use Rattle.ada_static_rules.specs.RuleChoiceBad.{bad_choices}
-use Rattle.legal_programs.specs.rewritten_types.Rewriting.{is_no_task}
-use Rattle.legal_programs.specs.alike_scopes.Alike.{SameNames}
-use Rattle.legal_programs.specs.alike_scopes.Old.{IsOldExpr, IsOldTarget, IsOldChoice, allows_task, IsOldDemand}
-use Rattle.legal_programs.specs.alike_scopes.Laws.{IsMetBut}
-use Rattle.legal_programs.proofs.alike_scopes.Exprs.{read-same, kind-same, expr-same, static-in-same}
-use Rattle.legal_programs.proofs.alike_scopes.Faces.{SameFace, AreNoValues, index-same, whole-same, array-same, no-variable-at, no-variable-there, no-exception-there, no-type-there}
-use Rattle.legal_programs.proofs.alike_scopes.Selectors.{target-same, bad-same}
-use Rattle.legal_programs.proofs.alike_scopes.Nodes.{empty-too, face, other-same, misfit-same, node-met, whole-met}
+use Rattle.task_laws.specs.legal.rewritten_types.Rewriting.{is_no_task}
+use Rattle.task_laws.specs.legal.alike_scopes.Alike.{SameNames}
+use Rattle.task_laws.specs.legal.alike_scopes.Old.{IsOldExpr, IsOldTarget, IsOldChoice, allows_task, IsOldDemand}
+use Rattle.task_laws.specs.legal.alike_scopes.Laws.{IsMetBut}
+use Rattle.task_laws.proofs.legal.alike_scopes.Exprs.{read-same, kind-same, expr-same, static-in-same}
+use Rattle.task_laws.proofs.legal.alike_scopes.Faces.{SameFace, AreNoValues, index-same, whole-same, array-same, no-variable-at, no-variable-there, no-exception-there, no-type-there}
+use Rattle.task_laws.proofs.legal.alike_scopes.Selectors.{target-same, bad-same}
+use Rattle.task_laws.proofs.legal.alike_scopes.Nodes.{empty-too, face, other-same, misfit-same, node-met, whole-met}
 
 module _ (old : ℕ → Bool) (s t : Scope) (n : SameNames old s t) where
   -- ---- what a value must be

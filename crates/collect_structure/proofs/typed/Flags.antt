@@ -18,9 +18,9 @@ use Rattle.ada_static_rules.specs.RuleReadOut.{out_formal}
 use Rattle.ada_static_rules.specs.RuleTextUse.{image_in_node}
 use Rattle.ada_static_rules.specs.Scope.{ArrayMark, AsArray, AsScalar, Range, Reading, Scope, Variable, integer_kind, mark_at, marking, marking_of, marking_of_mark, meaning, reading, reading_of, truth_kind}
 use Rattle.ada_static_rules.specs.Sites.{array_init_sites, expr_of, expr_sites, init_sites, is_task_object, names_sites, object_marking, object_marks, own_object_sites, shape_sites, site, stmt_sites, target_sites, value_sites}
-use Rattle.legal_programs.proofs.alike_scopes.Marks.{array-marking, array-reading, kind-ranged, range-grown}
-use Rattle.legal_programs.specs.alike_scopes.Laws.{IsMetBut}
-use Rattle.legal_programs.specs.rewritten_types.Agreement.{Grows}
+use Rattle.task_laws.proofs.legal.alike_scopes.Marks.{array-marking, array-reading, kind-ranged, range-grown}
+use Rattle.task_laws.specs.legal.alike_scopes.Laws.{IsMetBut}
+use Rattle.task_laws.specs.legal.rewritten_types.Agreement.{Grows}
 use Rattle.normal_model.specs.Ranges.{marked, word_at}
 use Rattle.normal_laws.proofs.structure.typed.Places.{met-node, met-of, met-whole, met-writes}
 use Rattle.normal_laws.proofs.structure.typed.Variables.{AllMetBut, of-kind, words-met}

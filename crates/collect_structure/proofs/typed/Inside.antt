@@ -18,9 +18,9 @@ use Rattle.ada_static_rules.specs.Sites.{all_names, loop_scope}
 use Rattle.ada_static_rules.specs.RuleArgCount.{called_entry}
 use Rattle.syn_event.specs.Numbering.{task_named}
 use Rattle.task_model.specs.Setting.{Setting, entry_of}
-use Rattle.legal_programs.specs.rewritten_types.Agreement.{IsScalar, Keeps}
-use Rattle.legal_programs.specs.alike_scopes.Alike.{SameNames}
-use Rattle.legal_programs.proofs.rewritten_types.Keeping.{keeps-self}
+use Rattle.task_laws.specs.legal.rewritten_types.Agreement.{IsScalar, Keeps}
+use Rattle.task_laws.specs.legal.alike_scopes.Alike.{SameNames}
+use Rattle.task_laws.proofs.legal.rewritten_types.Keeping.{keeps-self}
 use Rattle.normal_model.specs.RewrittenUnit.{RewrittenUnit}
 use Rattle.normal_model.specs.Ranges.{word_at, kind_name}
 use Rattle.normal_laws.specs.structure.checked.Around.{own_rules}

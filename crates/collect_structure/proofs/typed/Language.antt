@@ -13,7 +13,7 @@ use Rattle.ada_static_rules.specs.Declaring.{after_decl, after_decls, first_mark
 use Rattle.ada_static_rules.specs.RuleDuplicate.{is_predefined}
 use Rattle.ada_static_rules.specs.Scope.{Scope, SingleTask, TypeMark, meaning}
 use Rattle.ada_static_rules.specs.Sites.{decl_sites}
-use Rattle.legal_programs.proofs.types.MainScopes.{grows-decls}
+use Rattle.task_laws.proofs.legal.types.MainScopes.{grows-decls}
 use Rattle.normal_model.specs.Ranges.{word_at}
 use Rattle.normal_laws.proofs.structure.numbers.Named.{Has}
 use Rattle.normal_laws.proofs.structure.typed.Variables.{AllMetBut}

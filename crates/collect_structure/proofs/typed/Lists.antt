@@ -9,9 +9,9 @@ use Rattle.ada_tree.specs.PlainStmt.{PArgs}
 use Rattle.ada_static_rules.specs.Scope.{Scope, FormalPart, Family, single, family, unclear, EntryPart}
 use Rattle.ada_static_rules.specs.Demand.{is_actual, must_be_of, Site}
 use Rattle.ada_static_rules.specs.Sites.{site, if_there, expr_sites, expr_of, written_actual_sites, actual_sites, actuals_sites, args_sites}
-use Rattle.legal_programs.specs.alike_scopes.Alike.{SameNames}
-use Rattle.legal_programs.specs.alike_scopes.Old.{IsOldExpr}
-use Rattle.legal_programs.specs.alike_scopes.Laws.{IsMetBut}
+use Rattle.task_laws.specs.legal.alike_scopes.Alike.{SameNames}
+use Rattle.task_laws.specs.legal.alike_scopes.Old.{IsOldExpr}
+use Rattle.task_laws.specs.legal.alike_scopes.Laws.{IsMetBut}
 use Rattle.normal_laws.proofs.structure.typed.Calls.{as_family}
 use Rattle.normal_laws.proofs.structure.typed.Variables.{AllMetBut}
 use Rattle.replay_structure.proofs.typed.Calls.{AreOldArgs}

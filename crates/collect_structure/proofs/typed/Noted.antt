@@ -14,7 +14,7 @@ use Rattle.ada_static_rules.specs.RuleChoiceBad.{bad_choices, mark_of_object, ma
 use Rattle.ada_static_rules.specs.Scope.{Scope, integer_kind, range_of_mark, truth_kind}
 use Rattle.ada_static_rules.specs.Sites.{arm_choices, case_arms_sites, choice_sites, condition_sites, expr_sites, maybe_sites, site, stmt_sites, stmts_sites}
 use Rattle.task_model.specs.Frames.{in_front}
-use Rattle.legal_programs.specs.alike_scopes.Laws.{IsMetBut}
+use Rattle.task_laws.specs.legal.alike_scopes.Laws.{IsMetBut}
 use Rattle.normal_model.specs.Making.{one}
 use Rattle.normal_laws.proofs.structure.typed.Choices.{choice-met}
 use Rattle.normal_laws.proofs.structure.typed.Literals.{plain-fixed}

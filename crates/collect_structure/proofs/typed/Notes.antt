@@ -16,7 +16,7 @@ use Rattle.ada_static_rules.specs.RuleMismatch.{of_other_kind}
 use Rattle.ada_static_rules.specs.RuleArgCount.{called_entry}
 use Rattle.ada_static_rules.specs.RuleNotException.{no_exception}
 use Rattle.ada_static_rules.specs.Sites.{site, if_there, expr_sites, actuals_sites, args_sites, callee_sites, condition_sites, stmt_sites, handler_names_sites}
-use Rattle.legal_programs.specs.alike_scopes.Laws.{IsMetBut}
+use Rattle.task_laws.specs.legal.alike_scopes.Laws.{IsMetBut}
 use Rattle.normal_model.specs.Ranges.{word_at, truth_subtype}
 use Rattle.normal_laws.specs.structure.asked.Pieces.{named}
 use Rattle.normal_laws.specs.structure.typed.ScopeOf.{IsVariableOf}

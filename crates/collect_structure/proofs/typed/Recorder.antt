@@ -16,11 +16,11 @@ use Rattle.ada_static_rules.specs.RuleArgCount.{are_same, written_formals}
 use Rattle.ada_static_rules.specs.RuleDuplicate.{is_predefined}
 use Rattle.ada_static_rules.specs.Scope.{Parameter, Scope, Thing, Variable, entry_named, marking, marking_of, meaning, reading_of, single}
 use Rattle.ada_static_rules.specs.Sites.{accept_sites, body_sites, decl_sites, head_sites, own_object_sites, own_sites, stmt_sites, stmts_sites}
-use Rattle.legal_programs.proofs.alike_scopes.Marks.{values-reading}
-use Rattle.legal_programs.proofs.rewritten_types.Keeping.{grows-self, keeps-self}
-use Rattle.legal_programs.proofs.types.GoodScopes.{IsIn, names-kept, names-new}
-use Rattle.legal_programs.specs.alike_scopes.Laws.{IsMetBut}
-use Rattle.legal_programs.specs.rewritten_types.Agreement.{IsScalar}
+use Rattle.task_laws.proofs.legal.alike_scopes.Marks.{values-reading}
+use Rattle.task_laws.proofs.legal.rewritten_types.Keeping.{grows-self, keeps-self}
+use Rattle.task_laws.proofs.legal.types.GoodScopes.{IsIn, names-kept, names-new}
+use Rattle.task_laws.specs.legal.alike_scopes.Laws.{IsMetBut}
+use Rattle.task_laws.specs.legal.rewritten_types.Agreement.{IsScalar}
 use Rattle.normal_model.specs.Making.{one}
 use Rattle.normal_model.specs.Ranges.{word_at}
 use Rattle.normal_laws.proofs.structure.numbers.Named.{Has}

@@ -9,10 +9,10 @@ use Rattle.ada_tree.specs.PlainStmt.{PFormal}
 use Rattle.ada_static_rules.specs.Scope.{Scope, Thing, meaning, marking, and_then}
 use Rattle.ada_static_rules.specs.Declaring.{with_name, with_names, inner_scope, formal_thing, with_formals, first_mark_of, drange_kind, loop_thing, with_loop_parameter}
 use Rattle.ada_static_rules.specs.Sites.{all_names}
-use Rattle.legal_programs.specs.alike_scopes.Alike.{SameThing, SameNames, Alike}
-use Rattle.legal_programs.specs.alike_scopes.Old.{IsOldDrange, AreOldFormals}
-use Rattle.legal_programs.proofs.alike_scopes.Inner.{formals_are_alike, loop_is_alike}
-use Rattle.legal_programs.proofs.alike_scopes.Exprs.{dranges_are_same}
+use Rattle.task_laws.specs.legal.alike_scopes.Alike.{SameThing, SameNames, Alike}
+use Rattle.task_laws.specs.legal.alike_scopes.Old.{IsOldDrange, AreOldFormals}
+use Rattle.task_laws.proofs.legal.alike_scopes.Inner.{formals_are_alike, loop_is_alike}
+use Rattle.task_laws.proofs.legal.alike_scopes.Exprs.{dranges_are_same}
 use Rattle.normal_laws.proofs.structure.typed.Scopes.{IsNoTask, meaning-more, formal-no-task}
 
 -- ---- entries of the own task do not matter for names

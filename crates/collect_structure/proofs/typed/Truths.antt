@@ -14,8 +14,8 @@ use Rattle.ada_static_rules.specs.RuleArrayUse.{wrong_initial}
 use Rattle.ada_static_rules.specs.RuleMismatch.{is_allowed}
 use Rattle.ada_static_rules.specs.Scope.{Range, ScalarMark, Scope, Variable, kind_at, mark_at, marking, marking_of, marking_of_mark, range_of_mark, truth_kind}
 use Rattle.ada_static_rules.specs.Sites.{decl_sites, init_sites, is_task_object, names_sites, object_marking, scalar_init_sites, shape_sites, site, value_sites}
-use Rattle.legal_programs.proofs.alike_scopes.Marks.{scalar-marking}
-use Rattle.legal_programs.specs.alike_scopes.Laws.{IsMetBut}
+use Rattle.task_laws.proofs.legal.alike_scopes.Marks.{scalar-marking}
+use Rattle.task_laws.specs.legal.alike_scopes.Laws.{IsMetBut}
 use Rattle.normal_model.specs.Ranges.{word_at}
 use Rattle.normal_laws.proofs.structure.typed.Choices.{choice-met}
 use Rattle.normal_laws.proofs.structure.typed.Literals.{IsFixedAt, name-fixed}

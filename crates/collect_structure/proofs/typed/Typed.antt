@@ -22,13 +22,13 @@ use Rattle.ada_static_rules.specs.RuleReadOut.{out_formal}
 use Rattle.ada_static_rules.specs.Sites.{body_sites}
 use Rattle.task_model.specs.Setting.{Setting, entry_of}
 use Rattle.syn_event.specs.Numbering.{owner_of}
-use Rattle.legal_programs.specs.asked.Asked.{Asks, AskedBody}
-use Rattle.legal_programs.specs.asked.Kinds.{type_asks}
-use Rattle.legal_programs.proofs.asked.Typed.{asked_typed}
-use Rattle.legal_programs.specs.alike_scopes.Alike.{SameThing, SameTypes, SameNames}
-use Rattle.legal_programs.specs.alike_scopes.Old.{IsOldExpr, IsOldChoice}
-use Rattle.legal_programs.specs.alike_scopes.Laws.{IsMetBut}
-use Rattle.legal_programs.proofs.alike_scopes.Marks.{scalar-reading}
+use Rattle.task_laws.specs.legal.asked.Asked.{Asks, AskedBody}
+use Rattle.task_laws.specs.legal.asked.Kinds.{type_asks}
+use Rattle.task_laws.proofs.legal.asked.Typed.{asked_typed}
+use Rattle.task_laws.specs.legal.alike_scopes.Alike.{SameThing, SameTypes, SameNames}
+use Rattle.task_laws.specs.legal.alike_scopes.Old.{IsOldExpr, IsOldChoice}
+use Rattle.task_laws.specs.legal.alike_scopes.Laws.{IsMetBut}
+use Rattle.task_laws.proofs.legal.alike_scopes.Marks.{scalar-reading}
 use Rattle.normal_model.specs.RewrittenUnit.{RewrittenUnit}
 use Rattle.normal_model.specs.Ranges.{word_at}
 use Rattle.normal_laws.specs.structure.checked.Around.{own_rules}

@@ -10,7 +10,7 @@ use Rattle.syn_event.specs.Numbering.{owner_of}
 use Rattle.task_model.specs.Setting.{entry_of}
 use Rattle.normal_model.specs.Ranges.{word_at}
 use Rattle.normal_model.specs.Walk.{inside_alts, inside_handlers}
-use Rattle.legal_programs.specs.asked.Asked.{Asks, AskedAlts}
+use Rattle.task_laws.specs.legal.asked.Asked.{Asks, AskedAlts}
 use Rattle.normal_laws.specs.structure.asked.Pieces.{IsPlain, named}
 use Rattle.replay_model.specs.Serving.{raise_again, whatever}
 use Rattle.replay_structure.specs.asked.Pieces.{StandsAt, StandsNear, IsUnder}

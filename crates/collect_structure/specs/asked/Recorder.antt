@@ -9,7 +9,7 @@ use Rattle.ada_tree.specs.PlainDecl.{PDecls, decls_of}
 use Rattle.ada_static_rules.specs.Sites.{arm_choices}
 use Rattle.normal_model.specs.Making.{one}
 use Rattle.normal_model.specs.Ranges.{word_at}
-use Rattle.legal_programs.specs.asked.Asked.{Asks}
+use Rattle.task_laws.specs.legal.asked.Asked.{Asks}
 use Rattle.collect_model.specs.declared.AddedNames.{AddedNames}
 use Rattle.collect_model.specs.Noting.{number}
 use Rattle.collect_model.specs.Lines.{put_words, put_number, header_put}

@@ -10,7 +10,7 @@ use Rattle.syn_event.specs.Extents.{fixed}
 use Rattle.syn_event.specs.CheckSites.{formal_names}
 use Rattle.syn_event.specs.DeclaredTasks.{decl_list, tasks_of}
 use Rattle.task_model.specs.Setting.{Setting}
-use Rattle.legal_programs.specs.asked.Asked.{AskedBody}
+use Rattle.task_laws.specs.legal.asked.Asked.{AskedBody}
 use Rattle.normal_laws.specs.structure.numbers.Single.{IsSingle}
 use Rattle.normal_model.specs.NormalTree.{main_unit}
 use Rattle.replay_model.specs.ReplayTree.{is_task, is_body, last_task}

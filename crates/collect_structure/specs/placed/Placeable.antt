@@ -10,8 +10,8 @@ use Rattle.task_model.specs.Setting.{Setting, is_family}
 use Rattle.normal_model.specs.Calls.{entry_called}
 use Rattle.normal_model.specs.NormalTree.{main_unit, unit_for}
 use Rattle.normal_model.specs.RewrittenUnit.{RewrittenUnit}
-use Rattle.legal_programs.specs.asked.Asked.{Asks, AskedBody}
-use Rattle.legal_programs.specs.asked.Kinds.{no_asks}
+use Rattle.task_laws.specs.legal.asked.Asked.{Asks, AskedBody}
+use Rattle.task_laws.specs.legal.asked.Kinds.{no_asks}
 use Rattle.normal_laws.specs.structure.placed.Placeable.{IsName}
 use Rattle.replay_structure.specs.placed.Placeable.{IsReplayPlaceable}
 

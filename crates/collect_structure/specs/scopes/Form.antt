@@ -18,14 +18,14 @@ use Rattle.task_model.specs.Setting.{Setting}
 use Rattle.normal_model.specs.Ranges.{kind_name}
 use Rattle.normal_model.specs.NormalTree.{main_unit}
 use Rattle.normal_laws.specs.structure.checked.Around.{own_rules}
-use Rattle.legal_programs.specs.rewritten_types.Rewriting.{names_declared}
-use Rattle.legal_programs.specs.asked.Asked.{AskedBody}
-use Rattle.legal_programs.specs.alike_scopes.Alike.{SameNames}
-use Rattle.legal_programs.specs.alike_scopes.Laws.{IsMetBut}
+use Rattle.task_laws.specs.legal.rewritten_types.Rewriting.{names_declared}
+use Rattle.task_laws.specs.legal.asked.Asked.{AskedBody}
+use Rattle.task_laws.specs.legal.alike_scopes.Alike.{SameNames}
+use Rattle.task_laws.specs.legal.alike_scopes.Laws.{IsMetBut}
 use Rattle.replay_model.specs.ReplayTree.{is_added_object, is_task, is_body}
 use Rattle.replay_structure.specs.scopes.More.{is_single}
 use Rattle.replay_structure.specs.scopes.Form.{IsOldEntry, HasOldInit, IsOwnObject, IsVariableOf, AllAlong, plain_decls, first, varied, tasked, last}
-use Rattle.replay_is_legal.specs.names.inner.Units.{HasItsEntries}
+use Rattle.replay_structure.specs.legal.names.inner.Units.{HasItsEntries}
 use Rattle.collect_model.specs.Names.{answer_text, part_text, added_texts}
 use Rattle.collect_model.specs.Teller.{task_of}
 use Rattle.collect_structure.specs.Names.{new_texts, added_id}

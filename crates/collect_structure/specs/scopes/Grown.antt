@@ -3,7 +3,7 @@ use Rattle.std.specs.Prelude.{◌≡◌, ℕ, Bool, true, List, Some, map}
 use Rattle.ada_tree.specs.declared.naming.NameId.{NameId}
 use Rattle.ada_tree.specs.PlainProgram.{PProgram}
 use Rattle.ada_static_rules.specs.Scope.{Scope, EntryPart, SingleTask, meaning}
-use Rattle.legal_programs.specs.alike_scopes.Alike.{SameNames}
+use Rattle.task_laws.specs.legal.alike_scopes.Alike.{SameNames}
 use Rattle.collect_structure.specs.typed.Told.{told_entry}
 
 -- Old names mean the same in the scope d of the text as in the scope c of the normal form, and tasks have the same entries with the formal of the caller.

@@ -7,7 +7,7 @@ use Rattle.ada_tree.specs.TypeTable.{TypeTable}
 use Rattle.ada_static_rules.specs.Demand.{Demand, declares, Site}
 use Rattle.ada_static_rules.specs.StaticValue.{value_named}
 use Rattle.ada_static_rules.specs.Refusals.{types_in}
-use Rattle.replay_is_legal.specs.names.form_units.Inner.{inner_name}
+use Rattle.replay_structure.specs.legal.names.form_units.Inner.{inner_name}
 
 abbrev pub inner_told : PProgram → ℕ → Bool
 inner_told p n = inner_name p n && is_none (value_named (types_in p) record { 0 = n })

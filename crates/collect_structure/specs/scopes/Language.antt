@@ -5,7 +5,7 @@ use Rattle.ada_tree.specs.declared.static_types.Mark.{Mark}
 use Rattle.ada_tree.specs.PlainProgram.{PProgram}
 use Rattle.ada_static_rules.specs.Scope.{Scope, single, EntryPart, TypeMark, SingleTask, integer_kind, meaning, mark_at, kind_at}
 use Rattle.ada_static_rules.specs.Declaring.{before_all, predefined_types}
-use Rattle.legal_programs.specs.rewritten_types.Agreement.{Grows}
+use Rattle.task_laws.specs.legal.rewritten_types.Agreement.{Grows}
 use Rattle.collect_model.specs.Names.{flags_text, recorder_text, note_text}
 use Rattle.collect_structure.specs.Names.{added_id}
 use Rattle.collect_structure.specs.typed.Told.{note_parts}

@@ -11,7 +11,7 @@ use Rattle.ada_static_rules.specs.Sites.{own_object_sites, body_sites}
 use Rattle.syn_event.specs.DeclaredTasks.{decl_list}
 use Rattle.task_model.specs.Setting.{Setting}
 use Rattle.normal_model.specs.NormalTree.{main_unit}
-use Rattle.legal_programs.specs.alike_scopes.Laws.{IsMetBut}
+use Rattle.task_laws.specs.legal.alike_scopes.Laws.{IsMetBut}
 use Rattle.replay_model.specs.ReplayTree.{is_task, is_body, last_task}
 use Rattle.replay_structure.specs.scopes.Form.{AllAlong, first}
 use Rattle.collect_model.specs.declared.AddedNames.{AddedNames}

@@ -6,8 +6,8 @@ use Rattle.ada_static_rules.specs.Refusals.{types_in}
 use Rattle.syn_event.specs.Numbering.{Numbering}
 use Rattle.syn_event.specs.AllNumbers.{all_numbers}
 use Rattle.normal_model.specs.NormalTree.{first_decls}
-use Rattle.legal_programs.specs.rewritten_types.Agreement.{Rooted, Agrees}
-use Rattle.legal_programs.specs.rewritten_types.Laws.{behind}
+use Rattle.task_laws.specs.legal.rewritten_types.Agreement.{Rooted, Agrees}
+use Rattle.task_laws.specs.legal.rewritten_types.Laws.{behind}
 use Rattle.normal_laws.specs.structure.types.Own.{own_name}
 use Rattle.normal_laws.specs.structure.types.Laws.{IsOrdered, AreOwn}
 use Rattle.normal_laws.specs.structure.numbers.Laws.{NoneIsDed}

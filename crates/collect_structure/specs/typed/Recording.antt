@@ -7,7 +7,7 @@ use Rattle.ada_tree.specs.declared.static_types.Mark.{Mark}
 use Rattle.ada_tree.specs.Attributes.{false_name, true_name}
 use Rattle.ada_tree.specs.PlainProgram.{PProgram}
 use Rattle.ada_static_rules.specs.Scope.{Scope, Range, TypeMark, Variable, Parameter, Literal, AsScalar, integer_kind, truth_kind, kind_at, mark_at, meaning, reading, range_of_mark}
-use Rattle.legal_programs.specs.rewritten_types.Agreement.{IsScalar}
+use Rattle.task_laws.specs.legal.rewritten_types.Agreement.{IsScalar}
 use Rattle.collect_model.specs.Names.{flags_text}
 use Rattle.replay_structure.specs.typed.Controller.{IsInteger}
 use Rattle.collect_structure.specs.Names.{added_id}

@@ -9,10 +9,10 @@ use Rattle.ada_static_rules.specs.StaticValue.{value_named}
 use Rattle.ada_static_rules.specs.RuleArgCount.{called_entry}
 use Rattle.syn_event.specs.Numbering.{task_named}
 use Rattle.task_model.specs.Setting.{entry_of}
-use Rattle.legal_programs.specs.rewritten_types.Agreement.{IsScalar}
-use Rattle.legal_programs.specs.asked.Asked.{Asks}
-use Rattle.legal_programs.specs.alike_scopes.Alike.{SameNames}
-use Rattle.legal_programs.specs.alike_scopes.Old.{IsOldExpr}
+use Rattle.task_laws.specs.legal.rewritten_types.Agreement.{IsScalar}
+use Rattle.task_laws.specs.legal.asked.Asked.{Asks}
+use Rattle.task_laws.specs.legal.alike_scopes.Alike.{SameNames}
+use Rattle.task_laws.specs.legal.alike_scopes.Old.{IsOldExpr}
 use Rattle.normal_model.specs.RewrittenUnit.{RewrittenUnit}
 use Rattle.replay_structure.specs.typed.ScopeOf.{IsNumber, HasLists, IsEntryOf, form_asks}
 use Rattle.replay_structure.specs.typed.Controller.{IsInteger}

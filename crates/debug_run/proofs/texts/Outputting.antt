@@ -8,8 +8,8 @@ use Rattle.std.proofs.lemmas.List.Splits.{length-slice_split}
 use Rattle.std.proofs.lemmas.List.Sums.{passes_at_first}
 use Rattle.ded_io.specs.Written.{◌⧺◌, each_text}
 use Rattle.ded_io.proofs.Writes.{joined, joined_nil, joined_assoc}
-use Rattle.text_lines.specs.Lines.{is_line_end}
-use Rattle.text_lines.proofs.Walks.{split-Some, split-None}
+use Rattle.seq_file.specs.text_lines.Lines.{is_line_end}
+use Rattle.seq_file.proofs.text_lines.Walks.{split-Some, split-None}
 use Rattle.debug_run.specs.texts.OutputText.{pieces_of, but_last, last_piece, bar_line, angle_line, output_text}
 use Rattle.common_lemmas.proofs.Truth.{clash}
 

@@ -2,7 +2,7 @@
 use Rattle.std.specs.Prelude.{ℕ, List, [], ◌∷◌, codes}
 use Rattle.std.specs.List.{slice_split}
 use Rattle.ded_io.specs.Written.{◌⧺◌, each_text}
-use Rattle.text_lines.specs.Lines.{is_line_end}
+use Rattle.seq_file.specs.text_lines.Lines.{is_line_end}
 
 -- what an output has before its first line feed, between each two, and behind its last one
 abbrev pub pieces_of : List ℕ → List (List ℕ)

@@ -4,7 +4,7 @@ ghost use Rattle.std.specs.Prelude.{◌≡◌, ◌<◌, ◌+◌, ◌++◌, IfSom
 ghost use Rattle.ded_io.specs.Counts.{HasCause};
 ghost use Rattle.ded_io.specs.Written.{◌⧺◌, Wrote};
 ghost use Rattle.ded_io.specs.pages.Pages.{Drew, over};
-ghost use Rattle.text_lines.specs.Lines.{is_line_end};
+ghost use Rattle.seq_file.specs.text_lines.Lines.{is_line_end};
 ghost use Rattle.debug_run.specs.texts.OutputText.{angle_line, output_text};
 
 use ded_io::pages::Page;

@@ -2,7 +2,7 @@
 use Rattle.std.specs.Prelude.{◌≡◌, ◌++◌, ◌∷◌, [], ℕ, List, length, Some, None}
 use Rattle.std.specs.List.{concat}
 use Rattle.syn_event.specs.Numbering.{Numbering}
-use Rattle.text_lines.specs.Lines.{is_line_end, cut}
+use Rattle.seq_file.specs.text_lines.Lines.{is_line_end, cut}
 use Rattle.input_file.specs.ChoiceFiles.{choices_of_line, choice_fault}
 use Rattle.input_file.specs.InputFiles.{InputLine, input_of_line, input_fault}
 use Rattle.input_file.specs.inner.Tables.{IsTableOf}

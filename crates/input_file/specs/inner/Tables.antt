@@ -1,6 +1,6 @@
 -- The inputs of all tasks as the reader keeps them, by the number of the task.
 use Rattle.std.specs.Prelude.{◌≡◌, ◌<◌, ◌^◌, ℕ, false, List, length, map, slice_index_or}
-use Rattle.text_lines.specs.Capped.{capped}
+use Rattle.seq_file.specs.text_lines.Capped.{capped}
 use Rattle.input_file.specs.declared.table.Line.{Line}
 use Rattle.input_file.specs.declared.table.Table.{Table}
 use Rattle.input_file.specs.InputFiles.{InputLine, input_with, has_line, input_count, AreListsOf}

@@ -7,9 +7,9 @@ use Rattle.ada_static_rules.specs.Refusals.{types_in}
 use Rattle.syn_event.specs.declared.numbering.Mode.TheVariants.{Original}
 use Rattle.syn_event.specs.Legal.{Legal}
 use Rattle.normal_laws.specs.runs.forms.Normalisable.{numbers_of}
-use Rattle.legal_programs.specs.literals.Laws.{HasRules}
-use Rattle.legal_programs.specs.literals.Colours.{coloured}
-use Rattle.legal_programs.proofs.literals.Coloured.{coloured-is-met}
+use Rattle.task_laws.specs.legal.literals.Laws.{HasRules}
+use Rattle.task_laws.specs.legal.literals.Colours.{coloured}
+use Rattle.task_laws.proofs.legal.literals.Coloured.{coloured-is-met}
 use Rattle.normal_laws.specs.existence.Laws.{IsLegalOriginal}
 use Rattle.normal_laws.proofs.existence.Instance.{with_p}
 

@@ -12,12 +12,12 @@ use Rattle.ada_static_rules.specs.Refusals.{types_in}
 use Rattle.ada_tree.specs.WellPlaced.{well_placed, IsWellPlaced}
 use Rattle.syn_event.specs.declared.numbering.Mode.TheVariants.{Original}
 use Rattle.syn_event.specs.Legal.{Legal}
-use Rattle.legal_programs.proofs.rewritten_types.Lookups.{place-all}
+use Rattle.task_laws.proofs.legal.rewritten_types.Lookups.{place-all}
 use Rattle.normal_laws.specs.runs.runs.Example.{word}
 use Rattle.normal_laws.specs.runs.forms.Choosing.{entry, member, main_body, choosing}
 use Rattle.normal_laws.specs.runs.forms.Normalisable.{numbers_of}
 use Rattle.normal_laws.proofs.runs.forms.Choosing.{Named, n0, n25, n26, n27, n28, n29}
-use Rattle.legal_programs.specs.types.Typed.{IsSmall, IsSmallKind}
+use Rattle.task_laws.specs.legal.types.Typed.{IsSmall, IsSmallKind}
 use Rattle.normal_laws.specs.existence.units.Weights.{IsLight}
 use Rattle.normal_laws.specs.existence.Laws.{IsLegalOriginal}
 

@@ -7,7 +7,7 @@ use Rattle.ada_static_rules.specs.RuleDuplicate.{duplicate}
 use Rattle.ada_static_rules.specs.Refusals.{Refusal, by_rule, refused_at, refused_from}
 use Rattle.ada_static_rules.specs.Sites.{sites}
 use Rattle.common_lemmas.proofs.Lists.{back_empty, front_empty}
-use Rattle.legal_programs.specs.alike_scopes.Laws.{IsMetBut}
+use Rattle.task_laws.specs.legal.alike_scopes.Laws.{IsMetBut}
 use Rattle.normal_laws.specs.structure.once.Once.{AllOnce}
 use Rattle.normal_laws.specs.legality.Laws.{MeetsByPlaces, PlacesMeet}
 use Rattle.ada_static_rules.proofs.found_twice.Spans.{no_spans}

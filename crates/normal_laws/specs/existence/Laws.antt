@@ -12,9 +12,9 @@ use Rattle.normal_laws.specs.runs.runs.Laws.{opened, IsCalm}
 use Rattle.normal_laws.specs.runs.runs.Premises.{IsNormalForm}
 use Rattle.normal_laws.specs.runs.forms.Choosing.{choosing}
 use Rattle.normal_laws.specs.runs.forms.Normalisable.{numbers_of, made_for, normal_rewrite, IsNormalisable}
-use Rattle.legal_programs.specs.types.Typed.{IsSmall}
+use Rattle.task_laws.specs.legal.types.Typed.{IsSmall}
 use Rattle.normal_laws.specs.existence.units.Weights.{IsLight}
-use Rattle.legal_programs.specs.literals.Colours.{coloured}
+use Rattle.task_laws.specs.legal.literals.Colours.{coloured}
 
 -- The program is a legal original that the rewriters take: it is well placed, with the names of every program, small enumerations and light bodies.
 -- All of this but that it is legal is so of each text that is read within the limit of `run` (`text_laws: normal`).

@@ -16,8 +16,8 @@ use Rattle.ada_value.specs.Values.{limits_of, limits_or}
 use Rattle.syn_event.specs.Numbering.{Numbering, entry_at, owner_of}
 use Rattle.seq_file.specs.Known.{is_task, is_task_beside_main, is_known}
 use Rattle.task_model.specs.Setting.{family_limits}
-use Rattle.legal_programs.specs.rewritten_types.Agreement.{Grows}
-use Rattle.legal_programs.proofs.rewritten_types.Lookups.{find-grown}
+use Rattle.task_laws.specs.legal.rewritten_types.Agreement.{Grows}
+use Rattle.task_laws.proofs.legal.rewritten_types.Lookups.{find-grown}
 use Rattle.control_script.specs.declared.Op.{Op}
 use Rattle.control_script.specs.declared.Op.TheVariants.{Done, Join}
 use Rattle.normal_laws.specs.runs.forms.Normalisable.{numbers_of}
@@ -37,10 +37,10 @@ use Rattle.table_law.proofs.Apart.{control_names_are_apart}
 use Rattle.replay_structure.specs.spots.Laws.{IsThere}
 use Rattle.replay_structure.proofs.placed.Scripted.{script-few}
 use Rattle.replay_structure.proofs.spots.Looked.{added_are_found}
-use Rattle.replay_is_legal.specs.known.Laws.{AreKnown}
-use Rattle.replay_is_legal.proofs.fits.Counted.{tasks-within}
-use Rattle.replay_is_legal.proofs.known.Known.{known_have_literals}
-use Rattle.replay_is_legal.proofs.names.form_units.Ops.{IsBounded, script-bounded}
+use Rattle.replay_structure.specs.legal.known.Laws.{AreKnown}
+use Rattle.replay_structure.proofs.legal.fits.Counted.{tasks-within}
+use Rattle.replay_structure.proofs.legal.known.Known.{known_have_literals}
+use Rattle.replay_structure.proofs.legal.names.form_units.Ops.{IsBounded, script-bounded}
 use Rattle.replay_runs.specs.starts.Laws.{form_in, text_in}
 use Rattle.replay_runs.specs.script.Spelling.{kind, spelled}
 use Rattle.replay_runs.proofs.script.Spelled.{spells}

@@ -27,7 +27,7 @@ use Rattle.normal_laws.specs.structure.units.Laws.{TellUnits}
 use Rattle.normal_laws.proofs.structure.units.Tasks.{tasks_keep_numbers}
 use Rattle.normal_laws.proofs.structure.units.Declared.{units_are_declared}
 use Rattle.normal_laws.proofs.structure.entries.Entries.{mapped-at}
-use Rattle.legal_programs.proofs.types.MainScopes.{StandsWhole}
+use Rattle.task_laws.proofs.legal.types.MainScopes.{StandsWhole}
 use Rattle.normal_laws.specs.existence.Laws.{IsLegalOriginal}
 use Rattle.normal_laws.proofs.existence.units.Fields.{legal_is_ordered, legal_has_tokens, legal_names_tell}
 use Rattle.normal_laws.proofs.existence.statement_forms.Text.{parts-known}

@@ -27,7 +27,7 @@ use Rattle.normal_laws.specs.runs.forms.Normalisable.{setting_for, made_for}
 use Rattle.normal_laws.proofs.structure.numbers.Tasked.{under, normal-tasks-of}
 use Rattle.normal_laws.specs.existence.Laws.{IsLegalOriginal}
 use Rattle.normal_laws.proofs.legality.checks.Facts as facts
-use Rattle.replay_is_legal.proofs.fits.Counted.{tasks-within}
+use Rattle.replay_structure.proofs.legal.fits.Counted.{tasks-within}
 use Rattle.run_laws.specs.replaying.Copies.{Spots}
 use Rattle.replay_model.specs.Names.{rest_text, added_id}
 use Rattle.replay_model.specs.ReplayTree.{last_task}

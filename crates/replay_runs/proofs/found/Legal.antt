@@ -29,7 +29,7 @@ use Rattle.replay_structure.specs.scopes.Names.{old_name}
 use Rattle.replay_structure.specs.scopes.More.{AreDoubled}
 use Rattle.replay_structure.specs.scopes.Form.{IsTaskOf}
 use Rattle.replay_structure.proofs.scopes.Names.{entries-new}
-use Rattle.replay_is_legal.proofs.names.form_names.Whole.{legal_has_form_names}
+use Rattle.replay_structure.proofs.legal.names.form_names.Whole.{legal_has_form_names}
 use Rattle.replay_structure.proofs.spots.Ordered.{normal_is_in_order}
 use Rattle.common_lemmas.proofs.Lists.{all_unmapped, element_at, holds_at}
 use Rattle.replay_runs.specs.found.Laws.{AreDoublesApart, LegalHasNamesApart, LegalDoublesAreFound, LegalMoreAreFound}

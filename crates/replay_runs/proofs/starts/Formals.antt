@@ -36,9 +36,9 @@ use Rattle.replay_model.specs.Controlling.{added_entry, all_tasks, permit_formal
 use Rattle.replay_model.specs.Names.{kind_text, argument_text, index_text, control_text, go_text, done_text, hold_text, idle_text, stop_text, rest_text, never_text, join_text, added_texts, double_text, replay_names, added_id, added_word, double_word}
 use Rattle.replay_model.specs.ReplayTree.{last_task, replay_decls, script_of}
 use Rattle.replay_model.specs.ReplayNumbers.{plain_info, double_info, numbers_replayed}
-use Rattle.legal_programs.proofs.rewritten_types.Keeping.{apart}
-use Rattle.legal_programs.proofs.rewritten_types.Lookups.{find-all, place-all}
-use Rattle.legal_programs.specs.rewritten_values.Values.{old_names}
+use Rattle.task_laws.proofs.legal.rewritten_types.Keeping.{apart}
+use Rattle.task_laws.proofs.legal.rewritten_types.Lookups.{find-all, place-all}
+use Rattle.task_laws.specs.legal.rewritten_values.Values.{old_names}
 use Rattle.normal_laws.specs.structure.types.Own.{own_name}
 use Rattle.normal_laws.specs.structure.types.Laws.{IsOrdered, setting_of, AreOwn}
 use Rattle.normal_laws.specs.structure.numbers.Laws.{NoneIsDed}

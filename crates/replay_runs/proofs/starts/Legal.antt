@@ -25,14 +25,14 @@ use Rattle.normal_model.specs.Ranges.{marked, kind_of_range, kind_name, subtype_
 use Rattle.normal_model.specs.Calls.{Slot, slots_of}
 use Rattle.normal_model.specs.NormalTree.{first_running}
 use Rattle.normal_model.specs.NormalStmts.{unit_variables}
-use Rattle.legal_programs.specs.rewritten_types.Agreement.{IsScalar}
-use Rattle.legal_programs.specs.rewritten_types.Laws.{behind}
-use Rattle.legal_programs.specs.rewritten_types.Rewriting.{valued}
-use Rattle.legal_programs.proofs.rewritten_types.Refused.{declared_once}
-use Rattle.legal_programs.proofs.rewritten_types.Unmarked.{unvalued_has_no_mark}
-use Rattle.legal_programs.proofs.rewritten_types.NamedKinds.{kinds_are_named}
-use Rattle.legal_programs.specs.rewritten_values.Values.{old_names}
-use Rattle.legal_programs.specs.types.Typed.{HasLimits}
+use Rattle.task_laws.specs.legal.rewritten_types.Agreement.{IsScalar}
+use Rattle.task_laws.specs.legal.rewritten_types.Laws.{behind}
+use Rattle.task_laws.specs.legal.rewritten_types.Rewriting.{valued}
+use Rattle.task_laws.proofs.legal.rewritten_types.Refused.{declared_once}
+use Rattle.task_laws.proofs.legal.rewritten_types.Unmarked.{unvalued_has_no_mark}
+use Rattle.task_laws.proofs.legal.rewritten_types.NamedKinds.{kinds_are_named}
+use Rattle.task_laws.specs.legal.rewritten_values.Values.{old_names}
+use Rattle.task_laws.specs.legal.types.Typed.{HasLimits}
 use Rattle.normal_laws.specs.structure.types.Own.{own_name}
 use Rattle.normal_laws.specs.structure.types.Laws.{setting_of}
 use Rattle.normal_laws.proofs.structure.placed.Added.{AreSubtypes, AreVariablesFrom, unit-from}

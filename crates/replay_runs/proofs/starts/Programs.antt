@@ -22,10 +22,10 @@ use Rattle.normal_model.specs.NormalStmts.{unit_variables}
 use Rattle.normal_model.specs.NormalTree.{decls_front, first_decls, running, unit_for, bodies_of, main_variables}
 use Rattle.replay_model.specs.ReplayTree.{behind_own, permit_declared, is_added_object, is_task, is_body, replay_decl, last_task, script_of}
 use Rattle.replay_model.specs.Controlling.{control_declared, idle_declared, control_body, idle_body}
-use Rattle.legal_programs.specs.rewritten_types.Agreement.{Agrees}
-use Rattle.legal_programs.specs.rewritten_types.Laws.{behind}
-use Rattle.legal_programs.proofs.rewritten_types.Rooting.{rooted_agrees}
-use Rattle.legal_programs.specs.rewritten_values.Values.{old_names}
+use Rattle.task_laws.specs.legal.rewritten_types.Agreement.{Agrees}
+use Rattle.task_laws.specs.legal.rewritten_types.Laws.{behind}
+use Rattle.task_laws.proofs.legal.rewritten_types.Rooting.{rooted_agrees}
+use Rattle.task_laws.specs.legal.rewritten_values.Values.{old_names}
 use Rattle.normal_laws.specs.structure.types.Own.{own_name}
 use Rattle.normal_laws.specs.structure.types.Laws.{IsOrdered, setting_of, AreOwn}
 use Rattle.normal_laws.proofs.structure.types.Normal.{normal_is_rooted, first-every}

@@ -16,12 +16,12 @@ use Rattle.ada_value.specs.Values.{limits_or}
 use Rattle.ada_value.specs.Variables.{Variables, object_with}
 use Rattle.task_model.specs.Starting.{form_of, value_count, object_of, with_objects, is_in_types, declared_objects, after_declaration, objects_of}
 use Rattle.normal_model.specs.Ranges.{word_at}
-use Rattle.legal_programs.specs.rewritten_types.Agreement.{scalar_only, Grows, Agrees}
-use Rattle.legal_programs.proofs.rewritten_types.Lookups.{find-grown}
-use Rattle.legal_programs.specs.rewritten_values.Values.{old_names}
-use Rattle.legal_programs.proofs.rewritten_values.Saying.{values-alike}
-use Rattle.legal_programs.proofs.rewritten_values.Objects.{form-alike, unit-alike, marked_has_form}
-use Rattle.legal_programs.proofs.types.MainScopes.{grows-decls}
+use Rattle.task_laws.specs.legal.rewritten_types.Agreement.{scalar_only, Grows, Agrees}
+use Rattle.task_laws.proofs.legal.rewritten_types.Lookups.{find-grown}
+use Rattle.task_laws.specs.legal.rewritten_values.Values.{old_names}
+use Rattle.task_laws.proofs.legal.rewritten_values.Saying.{values-alike}
+use Rattle.task_laws.proofs.legal.rewritten_values.Objects.{form-alike, unit-alike, marked_has_form}
+use Rattle.task_laws.proofs.legal.types.MainScopes.{grows-decls}
 use Rattle.replay_runs.specs.starts.Laws.{IntegerIsThere}
 
 pub integer_is_there : IntegerIsThere

@@ -23,7 +23,7 @@ use Rattle.table_law.specs.Controllers.{CanMakeAll}
 use Rattle.table_law.specs.States as tables
 use Rattle.table_law.specs.States.{before, LeadsTo, Offers}
 use Rattle.replay_structure.specs.spots.Places.{text_spots}
-use Rattle.replay_is_legal.specs.known.Laws.{AreKnown}
+use Rattle.replay_structure.specs.legal.known.Laws.{AreKnown}
 use Rattle.replay_runs.specs.script.Spelling.{kind, arg, index, spelled}
 use Rattle.replay_runs.specs.starts.Laws.{form_in}
 use Rattle.replay_runs.specs.starts.Formals.{text_setting}

@@ -21,7 +21,7 @@ use Rattle.table_law.specs.Controllers.{Controller, Entries, IsController, CanMa
 use Rattle.table_law.specs.States.{starting, Offers}
 use Rattle.replay_structure.specs.spots.Places.{text_spots}
 use Rattle.replay_structure.specs.bodies.Laws.{unit_in}
-use Rattle.replay_is_legal.specs.known.Laws.{AreKnown}
+use Rattle.replay_structure.specs.legal.known.Laws.{AreKnown}
 use Rattle.replay_runs.specs.starts.Laws.{form_in}
 use Rattle.replay_runs.specs.starts.Formals.{text_setting}
 

@@ -24,7 +24,7 @@ use Rattle.normal_model.specs.NormalTree.{unit_for, main_variables}
 use Rattle.replay_model.specs.Names.{kind_text, argument_text, index_text, added_id}
 use Rattle.replay_model.specs.ReplayTree.{permit_declared, is_added_object, behind_own, is_task, is_body, last_task, normal_setting, replay_tree}
 use Rattle.replay_model.specs.ReplayNumbers.{numbers_replayed}
-use Rattle.legal_programs.specs.rewritten_values.Values.{old_names}
+use Rattle.task_laws.specs.legal.rewritten_values.Values.{old_names}
 use Rattle.normal_laws.specs.structure.types.Own.{own_name}
 use Rattle.normal_laws.specs.structure.types.Laws.{IsOrdered, setting_of, AreOwn}
 use Rattle.normal_laws.specs.structure.numbers.Laws.{NoneIsDed}

@@ -5,7 +5,7 @@ use Rattle.ada_tree.specs.PlainStmt.{PArms}
 use Rattle.ada_tree.specs.Every.{arms_count}
 use Rattle.normal_model.specs.Making.{one}
 use Rattle.normal_model.specs.RewrittenUnit.{RewrittenUnit}
-use Rattle.legal_programs.specs.asked.Asked.{Asks, AskedStmt, AskedStmts, AskedSome, AskedArms}
+use Rattle.task_laws.specs.legal.asked.Asked.{Asks, AskedStmt, AskedStmts, AskedSome, AskedArms}
 use Rattle.replay_model.specs.Asking.{ask, done, stop, only, ask_only, ask_which}
 use Rattle.replay_structure.specs.asked.Pieces.{Pieces}
 

@@ -4,7 +4,7 @@ use Rattle.ada_tree.specs.declared.naming.Span.{Span}
 use Rattle.ada_tree.specs.PlainStmt.{PCall, SCall, SConditional, STimed, PStmts, no_stmt, stmt_then, PArms, no_arm}
 use Rattle.normal_model.specs.Making.{one}
 use Rattle.normal_model.specs.RewrittenUnit.{RewrittenUnit}
-use Rattle.legal_programs.specs.asked.Asked.{Asks, AskedStmt, AskedStmts, AskedSome, AskedArms}
+use Rattle.task_laws.specs.legal.asked.Asked.{Asks, AskedStmt, AskedStmts, AskedSome, AskedArms}
 use Rattle.replay_model.specs.Asking.{done, branch}
 use Rattle.replay_model.specs.Serving.{saying_so}
 use Rattle.replay_model.specs.Calling.{double_call, is_called, call_image, plain_image, conditional_image, timed_image}

@@ -3,7 +3,7 @@ use Rattle.std.proofs.Common.{ℕ, ◌+◌, ◌*◌, ◌<◌, arith}
 use Rattle.ada_tree.specs.declared.naming.Span.{Span}
 use Rattle.ada_tree.specs.PlainStmt.{PHead, PStmt, PStmts, PMaybe, absent, present, accepting, no_arm}
 use Rattle.normal_model.specs.RewrittenUnit.{RewrittenUnit}
-use Rattle.legal_programs.specs.asked.Asked.{Asks, AskedStmt, AskedStmts, AskedSome, AskedMaybe}
+use Rattle.task_laws.specs.legal.asked.Asked.{Asks, AskedStmt, AskedStmts, AskedSome, AskedMaybe}
 use Rattle.normal_laws.proofs.structure.asked.Lists.{HasStmt, asked-some}
 use Rattle.replay_model.specs.Asking.{branch}
 use Rattle.replay_model.specs.Serving.{body_kept, accept_asking, saying_so, serve, permits_start, accept_image}

@@ -8,7 +8,7 @@ use Rattle.ada_tree.specs.Every.{alts_count}
 use Rattle.ada_static_rules.specs.Sites.{is_present}
 use Rattle.normal_model.specs.Making.{one}
 use Rattle.normal_model.specs.RewrittenUnit.{RewrittenUnit}
-use Rattle.legal_programs.specs.asked.Asked.{Asks, AskedStmt, AskedMaybe, AskedAlts, AskedKind}
+use Rattle.task_laws.specs.legal.asked.Asked.{Asks, AskedStmt, AskedMaybe, AskedAlts, AskedKind}
 use Rattle.replay_model.specs.Waiting.{Pause, pauses_of, never_alt, select_of, only_pause, pausing, never_or_terminate, passing}
 use Rattle.replay_structure.specs.asked.Pieces.{pause_guard, IsAlternative, first_alternative, later_alternative, Pieces}
 

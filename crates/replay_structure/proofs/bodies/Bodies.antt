@@ -22,7 +22,7 @@ use Rattle.replay_model.specs.Controlling.{control_declared, idle_declared, cont
 use Rattle.replay_model.specs.ReplayStmts.{replay_body}
 use Rattle.replay_model.specs.ReplayTree.{behind_own, permit_declared, replay_decl, is_task, is_body, last_task, replay_decls, normal_setting, replay_of}
 use Rattle.replay_model.specs.ReplayNumbers.{numbers_replayed}
-use Rattle.legal_programs.proofs.rewritten_types.Lookups.{place-more}
+use Rattle.task_laws.proofs.legal.rewritten_types.Lookups.{place-more}
 use Rattle.normal_laws.proofs.structure.units.Bodies.{IsNoBody, skip-list}
 use Rattle.normal_laws.proofs.structure.numbers.Listed.{IsPlain}
 use Rattle.replay_structure.proofs.texts.Listed.{all-behind, sorted-plain}

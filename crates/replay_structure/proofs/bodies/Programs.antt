@@ -23,7 +23,7 @@ use Rattle.normal_model.specs.NormalTree.{tasks_beside, unit_for, body_copy, bod
 use Rattle.normal_model.specs.NormalStmts.{normal_body, unit_variables}
 use Rattle.replay_model.specs.Names.{control_text, idle_text, replay_names, added_id}
 use Rattle.replay_model.specs.ReplayTree.{normal_setting}
-use Rattle.legal_programs.proofs.rewritten_types.Lookups.{place-all}
+use Rattle.task_laws.proofs.legal.rewritten_types.Lookups.{place-all}
 use Rattle.normal_laws.specs.structure.types.Laws.{IsOrdered, setting_of, AreOwn}
 use Rattle.normal_laws.specs.structure.numbers.Laws.{NoneIsDed}
 use Rattle.normal_laws.proofs.structure.numbers.Named.{reserved-added}

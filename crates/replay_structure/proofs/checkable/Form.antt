@@ -13,12 +13,12 @@ use Rattle.syn_event.specs.CheckRefusals.{MeetsCheckRules}
 use Rattle.syn_event.specs.CheckScope.{CheckScope, CheckSite}
 use Rattle.syn_event.specs.CheckSites as check
 use Rattle.syn_event.specs.DeclaredTasks.{decl_list}
-use Rattle.legal_programs.specs.sites.Met.{IsCheckMet}
-use Rattle.legal_programs.proofs.sites.Meeting.{all_check_met}
+use Rattle.task_laws.specs.legal.sites.Met.{IsCheckMet}
+use Rattle.task_laws.proofs.legal.sites.Meeting.{all_check_met}
 use Rattle.task_model.specs.Setting.{Setting}
-use Rattle.legal_programs.specs.asked.Asked.{AskedBody}
-use Rattle.legal_programs.specs.asked.Kinds.{check_asks}
-use Rattle.legal_programs.proofs.asked.Checked.{checked_asked}
+use Rattle.task_laws.specs.legal.asked.Asked.{AskedBody}
+use Rattle.task_laws.specs.legal.asked.Kinds.{check_asks}
+use Rattle.task_laws.proofs.legal.asked.Checked.{checked_asked}
 use Rattle.normal_model.specs.RewrittenUnit.{RewrittenUnit}
 use Rattle.normal_model.specs.NormalTree.{unit_for, bodies_of, main_unit, running, normal_tree}
 use Rattle.normal_model.specs.NormalStmts.{normal_body, unit_variables}

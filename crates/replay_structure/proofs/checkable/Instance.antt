@@ -7,7 +7,7 @@ use Rattle.ada_tree.specs.Every.{Rules, EveryWord, EveryFormal, EveryEntry, Ever
 use Rattle.syn_event.specs.declared.numbering.Mode.TheVariants.{Any}
 use Rattle.syn_event.specs.CheckRefusals.{MeetsCheckRules}
 use Rattle.normal_laws.specs.structure.placed.Example.{word, formal, entry, passing}
-use Rattle.legal_programs.specs.rewritten_values.Values.{old_names}
+use Rattle.task_laws.specs.legal.rewritten_values.Values.{old_names}
 use Rattle.normal_laws.specs.structure.types.Own.{own_name}
 use Rattle.normal_laws.specs.structure.types.Laws.{AreOwn}
 use Rattle.replay_structure.specs.checked.Example.{example_events}

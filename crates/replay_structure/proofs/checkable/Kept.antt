@@ -10,7 +10,7 @@ use Rattle.ada_tree.specs.Every.{Rules, no_rules, EveryWord, EveryExpr, EveryBou
 use Rattle.syn_event.specs.declared.numbering.Mode.TheVariants.{Original}
 use Rattle.syn_event.specs.CheckScope.{CheckScope, CheckSite}
 use Rattle.syn_event.specs.CheckSites as check
-use Rattle.legal_programs.specs.sites.Met.{IsCheckMet}
+use Rattle.task_laws.specs.legal.sites.Met.{IsCheckMet}
 use Rattle.normal_laws.specs.structure.checked.Around.{own_rules}
 use Rattle.normal_laws.specs.structure.asked.Pieces.{IsPlain}
 use Rattle.normal_laws.proofs.structure.placed.Depth.{depth-of}

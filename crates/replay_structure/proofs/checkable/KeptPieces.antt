@@ -21,11 +21,11 @@ use Rattle.syn_event.specs.declared.numbering.Mode.TheVariants.{Original}
 use Rattle.syn_event.specs.declared.numbering.TaskInfo.{TaskInfo}
 use Rattle.syn_event.specs.CheckScope.{CheckScope, CheckSite, declares}
 use Rattle.syn_event.specs.CheckSites as check
-use Rattle.legal_programs.specs.sites.Met.{IsCheckMet}
+use Rattle.task_laws.specs.legal.sites.Met.{IsCheckMet}
 use Rattle.task_model.specs.Setting.{Setting, is_family, first_expr, lists_in, lists_of}
 use Rattle.task_model.specs.Calls.{variable_of}
-use Rattle.legal_programs.specs.asked.Asked.{Asks}
-use Rattle.legal_programs.specs.asked.Kinds.{place_asks, check_asks, both}
+use Rattle.task_laws.specs.legal.asked.Asked.{Asks}
+use Rattle.task_laws.specs.legal.asked.Kinds.{place_asks, check_asks, both}
 use Rattle.normal_model.specs.Names.{variable_name, task_name}
 use Rattle.normal_model.specs.Ranges.{word_at, kind_of_range, subtype_of_range, array_range, family_range}
 use Rattle.normal_model.specs.Members.{integer_literal, truth_literal, literal_in, kind_of_index, index_literal}

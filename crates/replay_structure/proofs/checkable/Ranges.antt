@@ -21,8 +21,8 @@ use Rattle.normal_model.specs.Names.{task_name}
 use Rattle.normal_model.specs.RewrittenUnit.{RewrittenUnit}
 use Rattle.normal_model.specs.NormalStmts.{unit_variables}
 use Rattle.normal_model.specs.NormalTree.{decls_front, first_decls, tasks_beside, task_under, declared_under, unit_for, running, bodies_of, main_unit, normal_tree}
-use Rattle.legal_programs.specs.rewritten_types.Agreement.{Agrees}
-use Rattle.legal_programs.specs.rewritten_values.Values.{old_names}
+use Rattle.task_laws.specs.legal.rewritten_types.Agreement.{Agrees}
+use Rattle.task_laws.specs.legal.rewritten_values.Values.{old_names}
 use Rattle.normal_laws.specs.structure.types.Own.{own_name}
 use Rattle.normal_laws.specs.structure.types.Laws.{setting_of, AreOwn}
 use Rattle.normal_laws.proofs.structure.types.Normal.{first-every}

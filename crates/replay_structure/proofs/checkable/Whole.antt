@@ -7,8 +7,8 @@ use Rattle.syn_event.specs.declared.numbering.Mode.TheVariants.{Original}
 use Rattle.syn_event.specs.AllNumbers.{all_numbers}
 use Rattle.syn_event.specs.CheckSites as check
 use Rattle.syn_event.specs.Numbering.{Numbering, owner_of}
-use Rattle.legal_programs.specs.sites.Met.{IsCheckMet}
-use Rattle.legal_programs.proofs.sites.Meeting.{all_check_met}
+use Rattle.task_laws.specs.legal.sites.Met.{IsCheckMet}
+use Rattle.task_laws.proofs.legal.sites.Meeting.{all_check_met}
 use Rattle.normal_laws.proofs.structure.types.Normal.{normal_agrees}
 use Rattle.replay_model.specs.ReplayTree.{script_of}
 use Rattle.replay_structure.proofs.texts.Rooted.{replay_agrees}

@@ -15,11 +15,11 @@ use Rattle.syn_event.specs.CheckSites as check
 use Rattle.syn_event.specs.RuleSharedVariable.{shared_name, in_body_of}
 use Rattle.syn_event.specs.DeclaredTasks.{decl_list, tasks_in}
 use Rattle.task_model.specs.Setting.{Setting}
-use Rattle.legal_programs.specs.asked.Asked.{AskedBody}
-use Rattle.legal_programs.specs.asked.Kinds.{place_asks, check_asks, both}
-use Rattle.legal_programs.proofs.asked.Placed.{placed_asked}
-use Rattle.legal_programs.proofs.asked.Checked.{checked_asked, asked_checked}
-use Rattle.legal_programs.proofs.asked.Together.{both_asked}
+use Rattle.task_laws.specs.legal.asked.Asked.{AskedBody}
+use Rattle.task_laws.specs.legal.asked.Kinds.{place_asks, check_asks, both}
+use Rattle.task_laws.proofs.legal.asked.Placed.{placed_asked}
+use Rattle.task_laws.proofs.legal.asked.Checked.{checked_asked, asked_checked}
+use Rattle.task_laws.proofs.legal.asked.Together.{both_asked}
 use Rattle.normal_model.specs.Ranges.{integer_subtype}
 use Rattle.normal_model.specs.RewrittenUnit.{RewrittenUnit}
 use Rattle.normal_model.specs.NormalTree.{unit_for}

@@ -15,8 +15,8 @@ use Rattle.syn_event.specs.RuleAcceptPlace.{is_among, is_own_entry}
 use Rattle.syn_event.specs.RuleSelectForm.{alt_kinds, is_accept}
 use Rattle.syn_event.specs.RuleSameEntryTwice.{accept_heads, clashing}
 use Rattle.task_model.specs.Setting.{entry_of}
-use Rattle.legal_programs.specs.asked.Asked.{Asks, AskedAlts, AskedKind}
-use Rattle.legal_programs.specs.asked.Kinds.{check_asks, before_sites}
+use Rattle.task_laws.specs.legal.asked.Asked.{Asks, AskedAlts, AskedKind}
+use Rattle.task_laws.specs.legal.asked.Kinds.{check_asks, before_sites}
 use Rattle.normal_model.specs.RewrittenUnit.{RewrittenUnit}
 use Rattle.normal_model.specs.Calls.{entry_called, lists_called}
 use Rattle.normal_laws.proofs.structure.checked.Places.{met-deep, met-alternative, met-callee, met-accept, met-wait, met-raise, met-use}

@@ -12,7 +12,7 @@ use Rattle.syn_event.specs.CheckScope.{CheckScope, CheckSite, counts}
 use Rattle.syn_event.specs.CheckSites.{site, numbered, tasks_sites, entries_of_part, entries_sites, copies_sites, all_copies_sites, counted_sites}
 use Rattle.syn_event.specs.NamedTasks.{NamedTasks, named_tasks, with_type, single_task_name, task_names_in, task_names_of, task_count}
 use Rattle.syn_event.specs.DeclaredTasks.{tasks_in}
-use Rattle.legal_programs.specs.sites.Met.{IsCheckMet}
+use Rattle.task_laws.specs.legal.sites.Met.{IsCheckMet}
 use Rattle.normal_laws.proofs.structure.checked.Places.{passed-not}
 use Rattle.replay_model.specs.Names.{never_text, join_text}
 use Rattle.replay_model.specs.ReplayTree.{double_entry}

@@ -15,7 +15,7 @@ use Rattle.syn_event.specs.CheckScope.{CheckScope, CheckSite, declares, needs_bo
 use Rattle.syn_event.specs.CheckSites as check
 use Rattle.syn_event.specs.Extents.{size, count_to}
 use Rattle.syn_event.specs.DeclaredTasks.{text_of}
-use Rattle.legal_programs.proofs.sites.Around.{test-holds}
+use Rattle.task_laws.proofs.legal.sites.Around.{test-holds}
 use Rattle.normal_laws.proofs.structure.numbers.Named.{Has}
 use Rattle.normal_laws.proofs.structure.checked.Places.{met-deep, met-name, passed-not}
 use Rattle.replay_model.specs.Names.{kind_text, argument_text, index_text, control_text, go_text, done_text, hold_text, idle_text, stop_text, rest_text, never_text, join_text, added_texts, double_text, replay_names, added_id, added_word}

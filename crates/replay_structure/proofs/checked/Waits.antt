@@ -16,8 +16,8 @@ use Rattle.syn_event.specs.RuleAcceptPlace.{is_among, is_own_entry}
 use Rattle.syn_event.specs.RuleSelectForm.{alt_kinds, is_accept, is_delay, is_terminate, some, is_malformed}
 use Rattle.syn_event.specs.RuleSameEntryTwice.{accept_heads}
 use Rattle.syn_event.proofs.Nothing.{test_fails}
-use Rattle.legal_programs.specs.asked.Asked.{Asks, AskedAlts}
-use Rattle.legal_programs.specs.asked.Kinds.{place_asks, check_asks, both}
+use Rattle.task_laws.specs.legal.asked.Asked.{Asks, AskedAlts}
+use Rattle.task_laws.specs.legal.asked.Kinds.{place_asks, check_asks, both}
 use Rattle.normal_model.specs.RewrittenUnit.{RewrittenUnit}
 use Rattle.replay_model.specs.Names.{never_text, added_word}
 use Rattle.replay_model.specs.Waiting.{Pause, pauses_of, never_alt, only_pause}

@@ -17,7 +17,7 @@ use Rattle.syn_event.specs.DeclaredTasks.{text_of, tasks_of}
 use Rattle.normal_model.proofs.VariablesLemmas.{Begins}
 use Rattle.normal_laws.proofs.structure.types.Names.{text-place}
 use Rattle.normal_laws.proofs.structure.numbers.Named.{Has, has-folded, has-back}
-use Rattle.legal_programs.proofs.rewritten_values.Saying.{place-within}
+use Rattle.task_laws.proofs.legal.rewritten_values.Saying.{place-within}
 use Rattle.replay_model.specs.Names.{added_texts, double_text, double_texts, replay_names, added_id}
 use Rattle.replay_structure.proofs.texts.Rooted.{replay-begins}
 use Rattle.replay_structure.specs.declares_once.Names.{is_added_text}

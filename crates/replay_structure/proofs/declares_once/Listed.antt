@@ -8,7 +8,7 @@ use Rattle.ada_static_rules.specs.Demand.{Site}
 use Rattle.ada_static_rules.specs.Declaring.{before_all, first_scope, inner_scope, after_decl, after_decls}
 use Rattle.ada_static_rules.specs.Sites.{with_words, names_sites, decls_sites, body_sites, sites}
 use Rattle.syn_event.specs.DeclaredTasks.{tasks_in}
-use Rattle.legal_programs.specs.rewritten_types.Rewriting.{names_declared}
+use Rattle.task_laws.specs.legal.rewritten_types.Rewriting.{names_declared}
 use Rattle.common_lemmas.proofs.Lists.{all_joined, all_weaker}
 use Rattle.replay_model.specs.ReplayTree.{is_body}
 use Rattle.replay_structure.proofs.texts.Listed.{plain-tests}

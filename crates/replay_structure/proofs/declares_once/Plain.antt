@@ -10,7 +10,7 @@ use Rattle.ada_static_rules.specs.RuleDuplicate.{is_predefined}
 use Rattle.ada_static_rules.specs.Scope.{Scope, integer_kind}
 use Rattle.ada_static_rules.specs.Declaring.{declared_object, after_decl, after_decls}
 use Rattle.ada_static_rules.specs.Sites.{with_words, decl_sites, decls_sites}
-use Rattle.legal_programs.specs.rewritten_types.Rewriting.{names_declared}
+use Rattle.task_laws.specs.legal.rewritten_types.Rewriting.{names_declared}
 use Rattle.replay_model.specs.ReplayTree.{is_added_object, behind_own}
 use Rattle.normal_laws.proofs.structure.numbers.Listed.{IsPlain}
 use Rattle.ada_decl_rules.specs.duplicates.NamingsInOrder.{namings_of, declared}

@@ -15,7 +15,7 @@ use Rattle.task_model.specs.Setting.{Setting}
 use Rattle.normal_model.specs.Names.{index_text, variable_text, with_members, normal_names, variable_name, task_name}
 use Rattle.normal_model.proofs.VariablesLemmas.{Begins}
 use Rattle.normal_laws.proofs.structure.types.Names.{variables-begin, names-begin, variable-there}
-use Rattle.legal_programs.proofs.rewritten_values.Saying.{place-within}
+use Rattle.task_laws.proofs.legal.rewritten_values.Saying.{place-within}
 use Rattle.normal_laws.proofs.existence.units.TaskNames.{mark-there}
 use Rattle.normal_laws.proofs.existence.units.TasksApart.{full_text, IsNamed}
 use Rattle.normal_laws.proofs.legality.declares_once.Ids.{IsGoodId}

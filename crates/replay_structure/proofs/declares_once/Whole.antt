@@ -17,7 +17,7 @@ use Rattle.syn_event.specs.Numbering.{Numbering}
 use Rattle.syn_event.specs.DeclaredTasks.{decl_list, tasks_in}
 use Rattle.task_model.specs.Setting.{Setting}
 use Rattle.control_script.specs.declared.Op.{Op}
-use Rattle.legal_programs.specs.rewritten_types.Rewriting.{names_declared}
+use Rattle.task_laws.specs.legal.rewritten_types.Rewriting.{names_declared}
 use Rattle.normal_model.specs.NormalTree.{main_unit, normal_tree}
 use Rattle.normal_laws.specs.structure.types.Laws.{setting_of}
 use Rattle.normal_laws.proofs.structure.numbers.Named.{Has}

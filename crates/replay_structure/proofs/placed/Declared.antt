@@ -16,10 +16,10 @@ use Rattle.control_script.specs.declared.Op.{Op}
 use Rattle.task_model.specs.Setting.{Setting}
 use Rattle.normal_model.specs.NormalTree.{unit_for}
 use Rattle.normal_model.specs.RewrittenUnit.{RewrittenUnit}
-use Rattle.legal_programs.specs.asked.Asked.{AskedBody}
-use Rattle.legal_programs.specs.asked.Kinds.{place_asks, both}
-use Rattle.legal_programs.proofs.asked.Placed.{placed_asked, asked_placed}
-use Rattle.legal_programs.proofs.asked.Together.{both_asked}
+use Rattle.task_laws.specs.legal.asked.Asked.{AskedBody}
+use Rattle.task_laws.specs.legal.asked.Kinds.{place_asks, both}
+use Rattle.task_laws.proofs.legal.asked.Placed.{placed_asked, asked_placed}
+use Rattle.task_laws.proofs.legal.asked.Together.{both_asked}
 use Rattle.normal_laws.specs.structure.placed.Placeable.{IsName}
 use Rattle.normal_laws.proofs.structure.placed.Whole.{placed-with}
 use Rattle.replay_model.specs.Names.{kind_text, argument_text, index_text, never_text, join_text, added_word}

@@ -9,7 +9,7 @@ use Rattle.ada_tree.specs.Every.{EveryExpr}
 use Rattle.task_model.specs.Setting.{Setting}
 use Rattle.normal_model.specs.Making.{variable}
 use Rattle.normal_model.specs.NormalTree.{main_unit}
-use Rattle.legal_programs.specs.asked.Asked.{AskedBody}
+use Rattle.task_laws.specs.legal.asked.Asked.{AskedBody}
 use Rattle.normal_laws.specs.structure.placed.Example.{nowhere, passing_set}
 use Rattle.normal_laws.proofs.structure.placed.Names.{first-named, old-named}
 use Rattle.normal_laws.proofs.structure.placed.Originals.{all_normal_placed}

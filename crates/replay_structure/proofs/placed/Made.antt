@@ -16,8 +16,8 @@ use Rattle.task_model.specs.Setting.{Setting, first_expr, lists_in, lists_of, is
 use Rattle.normal_model.specs.Calls.{first_named, entry_called, lists_called}
 use Rattle.normal_model.specs.RewrittenUnit.{RewrittenUnit}
 use Rattle.normal_model.specs.Walk.{after_stmts, inside_handlers}
-use Rattle.legal_programs.specs.asked.Asked.{Asks}
-use Rattle.legal_programs.specs.asked.Kinds.{place_asks, both}
+use Rattle.task_laws.specs.legal.asked.Asked.{Asks}
+use Rattle.task_laws.specs.legal.asked.Kinds.{place_asks, both}
 use Rattle.normal_laws.specs.structure.placed.Placeable.{IsName}
 use Rattle.replay_model.specs.Names.{kind_text, argument_text, index_text}
 use Rattle.replay_model.specs.Asking.{permit_part, permit_is_kind}

@@ -11,7 +11,7 @@ use Rattle.ada_tree.specs.WellPlaced.{well_placed}
 use Rattle.normal_laws.specs.structure.asked.Pieces.{IsPlain}
 use Rattle.normal_laws.specs.structure.placed.Placeable.{IsName}
 use Rattle.replay_structure.specs.placed.Fitting.{reach}
-use Rattle.legal_programs.proofs.sites.Both.{all-both}
+use Rattle.task_laws.proofs.legal.sites.Both.{all-both}
 
 -- ---- lists
 

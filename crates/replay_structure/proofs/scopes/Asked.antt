@@ -12,13 +12,13 @@ use Rattle.ada_static_rules.specs.ExprTypes.{kind_of}
 use Rattle.ada_static_rules.specs.RuleArgCount.{called_entry}
 use Rattle.ada_static_rules.specs.RuleChoiceBad.{selected_range}
 use Rattle.ada_static_rules.specs.Declaring.{inner_scope}
-use Rattle.legal_programs.specs.asked.Asked.{Asks, AskedBody}
-use Rattle.legal_programs.specs.asked.Kinds.{place_asks, type_asks, no_asks, both}
-use Rattle.legal_programs.proofs.asked.Placed.{placed_asked}
-use Rattle.legal_programs.proofs.asked.Typed.{typed_asked}
-use Rattle.legal_programs.proofs.asked.Together.{both_asked}
+use Rattle.task_laws.specs.legal.asked.Asked.{Asks, AskedBody}
+use Rattle.task_laws.specs.legal.asked.Kinds.{place_asks, type_asks, no_asks, both}
+use Rattle.task_laws.proofs.legal.asked.Placed.{placed_asked}
+use Rattle.task_laws.proofs.legal.asked.Typed.{typed_asked}
+use Rattle.task_laws.proofs.legal.asked.Together.{both_asked}
 use Rattle.normal_laws.specs.structure.checked.Around.{own_rules}
-use Rattle.legal_programs.specs.alike_scopes.Laws.{IsMetBut}
+use Rattle.task_laws.specs.legal.alike_scopes.Laws.{IsMetBut}
 use Rattle.replay_structure.specs.typed.ScopeOf.{IsSingle, AreInner, IsInnerScheme, has_accept, with_scopes, form_asks}
 use Rattle.replay_structure.proofs.scopes.Weaker.{AsksLess, asked_less}
 

@@ -15,10 +15,10 @@ use Rattle.ada_static_rules.specs.Sites.{site, own_object_sites, own_sites, body
 use Rattle.syn_event.specs.DeclaredTasks.{decl_list}
 use Rattle.task_model.specs.Setting.{Setting}
 use Rattle.normal_model.specs.NormalTree.{unit_for}
-use Rattle.legal_programs.specs.rewritten_types.Rewriting.{IsAdded}
-use Rattle.legal_programs.specs.alike_scopes.Alike.{SameNames}
-use Rattle.legal_programs.specs.alike_scopes.Laws.{IsMetBut}
-use Rattle.legal_programs.proofs.alike_scopes.Inner.{own-object-main}
+use Rattle.task_laws.specs.legal.rewritten_types.Rewriting.{IsAdded}
+use Rattle.task_laws.specs.legal.alike_scopes.Alike.{SameNames}
+use Rattle.task_laws.specs.legal.alike_scopes.Laws.{IsMetBut}
+use Rattle.task_laws.proofs.legal.alike_scopes.Inner.{own-object-main}
 use Rattle.normal_laws.proofs.structure.typed.Variables.{AllMetBut}
 use Rattle.replay_model.specs.Names.{control_text, idle_text, added_id}
 use Rattle.replay_model.specs.ReplayTree.{is_added_object, permit_declared, behind_own, replay_decl}

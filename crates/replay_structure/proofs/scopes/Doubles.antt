@@ -13,7 +13,7 @@ use Rattle.ada_static_rules.specs.StaticValue.{first_of_two}
 use Rattle.ada_static_rules.specs.Scope.{Scope, Family, single, EntryPart, FormalPart, SingleTask, scalar_kind, entry_named}
 use Rattle.ada_static_rules.specs.Declaring.{family_of, entry_family, formal_parts, entry_part, task_thing, after_decl}
 use Rattle.normal_laws.specs.structure.asked.Pieces.{IsAmong, first_among, later_among}
-use Rattle.legal_programs.specs.alike_scopes.Old.{IsOldDrange, AreOldFormals}
+use Rattle.task_laws.specs.legal.alike_scopes.Old.{IsOldDrange, AreOldFormals}
 use Rattle.normal_laws.proofs.structure.typed.Scopes.{differ}
 use Rattle.replay_model.specs.Names.{never_text, join_text, added_id}
 use Rattle.replay_model.specs.ReplayTree.{double_entry, more_entries}

@@ -26,16 +26,16 @@ use Rattle.task_model.specs.Setting.{Setting, entry_of, is_family_in, is_family}
 use Rattle.control_script.specs.declared.Op.{Op}
 use Rattle.control_script.specs.declared.Op.TheVariants.{Go, Done, Join, Hold}
 use Rattle.ada_static_rules.specs.StaticValue.{value_named, mark_named}
-use Rattle.legal_programs.specs.rewritten_types.Agreement.{IsScalar}
-use Rattle.legal_programs.proofs.rewritten_types.Owning.{whole-first}
+use Rattle.task_laws.specs.legal.rewritten_types.Agreement.{IsScalar}
+use Rattle.task_laws.proofs.legal.rewritten_types.Owning.{whole-first}
 use Rattle.normal_model.specs.Ranges.{kind_name}
 use Rattle.normal_model.specs.NormalTree.{main_unit, unit_for}
 use Rattle.normal_laws.specs.structure.checked.Around.{own_rules}
-use Rattle.legal_programs.specs.asked.Asked.{AskedBody}
-use Rattle.legal_programs.specs.alike_scopes.Alike.{no_thing, a_task, no_values, SameNames}
-use Rattle.legal_programs.specs.alike_scopes.Laws.{IsMetBut}
-use Rattle.legal_programs.proofs.alike_scopes.Tables.{types-self}
-use Rattle.legal_programs.proofs.alike_scopes.Examples.{Self, meant, all_self}
+use Rattle.task_laws.specs.legal.asked.Asked.{AskedBody}
+use Rattle.task_laws.specs.legal.alike_scopes.Alike.{no_thing, a_task, no_values, SameNames}
+use Rattle.task_laws.specs.legal.alike_scopes.Laws.{IsMetBut}
+use Rattle.task_laws.proofs.legal.alike_scopes.Tables.{types-self}
+use Rattle.task_laws.proofs.legal.alike_scopes.Examples.{Self, meant, all_self}
 use Rattle.normal_laws.proofs.structure.typed.Places.{met-declares}
 use Rattle.normal_laws.proofs.structure.typed.Scopes.{IsNoTask, not-called}
 use Rattle.replay_model.specs.declared.tables.columns.Column.{Column}

@@ -15,10 +15,10 @@ use Rattle.control_script.specs.declared.Op.{Op}
 use Rattle.control_script.specs.declared.Op.TheVariants.{Go, Done, Join, Hold}
 use Rattle.normal_model.specs.Names.{task_name_at}
 use Rattle.syn_event.specs.declared.numbering.TaskInfo.{TaskInfo}
-use Rattle.legal_programs.specs.rewritten_types.Rewriting.{IsNew}
-use Rattle.legal_programs.specs.alike_scopes.Alike.{no_values, SameNames}
-use Rattle.legal_programs.specs.alike_scopes.Laws.{IsMetBut}
-use Rattle.legal_programs.proofs.alike_scopes.Naming as naming
+use Rattle.task_laws.specs.legal.rewritten_types.Rewriting.{IsNew}
+use Rattle.task_laws.specs.legal.alike_scopes.Alike.{no_values, SameNames}
+use Rattle.task_laws.specs.legal.alike_scopes.Laws.{IsMetBut}
+use Rattle.task_laws.proofs.legal.alike_scopes.Naming as naming
 use Rattle.normal_laws.proofs.structure.typed.Scopes.{differ}
 use Rattle.normal_laws.proofs.structure.typed.Variables.{AllMetBut}
 use Rattle.replay_model.specs.Names.{kind_text, argument_text, index_text, counter_text, added_id}
@@ -36,7 +36,7 @@ use Rattle.replay_structure.proofs.scopes.Permit.{integer-there, permit-more, pe
 use Rattle.replay_structure.proofs.scopes.Units.{BodiesReady, IsUnit, variable-both, variables-both, body-both}
 use Rattle.replay_structure.proofs.scopes.Objects.{object-more}
 use Rattle.replay_structure.proofs.scopes.Bodies.{control-moved, idle-moved, body-sites-met}
-use Rattle.legal_programs.proofs.alike_scopes.Mains.{task-none}
+use Rattle.task_laws.proofs.legal.alike_scopes.Mains.{task-none}
 use Rattle.ada_static_rules.proofs.found_twice.Declared.{decl_own}
 
 -- ---- lists of declarations

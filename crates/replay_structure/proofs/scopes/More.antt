@@ -8,9 +8,9 @@ use Rattle.ada_tree.specs.PlainDecl.{PShape, OPlain, OArray, PInit}
 use Rattle.ada_tree.specs.PlainProgram.{PProgram}
 use Rattle.ada_static_rules.specs.Scope.{Scope, Range, Thing, EntryPart, Marking, ScalarMark, ArrayMark, TaskMark, NoMark, UnknownMark, UnclearMark, marking, meaning, entry_named}
 use Rattle.ada_static_rules.specs.Declaring.{with_name, with_names, with_types, inner_scope, in_body, made_array, made_subind, drange_range, object_meaning, task_object, task_array, plain_object, array_object, declared_object, with_constants, after_object}
-use Rattle.legal_programs.specs.rewritten_types.Rewriting.{IsNew}
-use Rattle.legal_programs.specs.alike_scopes.Alike.{a_task, SameTypes, SameThing, no_values, SameNames, Alike}
-use Rattle.legal_programs.specs.alike_scopes.Old.{IsOldShape}
+use Rattle.task_laws.specs.legal.rewritten_types.Rewriting.{IsNew}
+use Rattle.task_laws.specs.legal.alike_scopes.Alike.{a_task, SameTypes, SameThing, no_values, SameNames, Alike}
+use Rattle.task_laws.specs.legal.alike_scopes.Old.{IsOldShape}
 use Rattle.normal_laws.proofs.structure.typed.Scopes.{differ, meaning-more}
 use Rattle.replay_structure.specs.scopes.More.{is_single, IsGrown, stays, doubled, IsMore}
 use Rattle.replay_structure.proofs.scopes.Same.{declared-same}

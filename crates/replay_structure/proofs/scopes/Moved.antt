@@ -8,8 +8,8 @@ use Rattle.ada_tree.specs.TypeTable.{TypeTable}
 use Rattle.ada_tree.specs.PlainProgram.{PProgram}
 use Rattle.ada_static_rules.specs.Scope.{Scope, Family, single, family, unclear, Thing, TypeMark, TaskType, SingleTask, TaskObject, TaskArray, Variable, ConstantObject, Parameter, LoopParameter, Literal, AnException, MainProcedure, AnotherUnit, Unclear, kind_at, mark_at, marking, marking_of, marking_of_mark, marking_of_kind, scalar_kind, meaning, entry_named}
 use Rattle.task_model.specs.Setting.{Setting}
-use Rattle.legal_programs.specs.rewritten_types.Agreement.{Grows, Keeps}
-use Rattle.legal_programs.specs.alike_scopes.Alike.{Alike}
+use Rattle.task_laws.specs.legal.rewritten_types.Agreement.{Grows, Keeps}
+use Rattle.task_laws.specs.legal.alike_scopes.Alike.{Alike}
 use Rattle.normal_model.specs.RewrittenUnit.{RewrittenUnit}
 use Rattle.replay_model.specs.Names.{kind_text, argument_text, index_text, control_text, idle_text, never_text, added_id}
 use Rattle.replay_structure.specs.typed.ScopeOf.{HasLists, IsCountedBy, as_itself, by_position, IsEntryOf, HasDoubles, IsScopeOf}

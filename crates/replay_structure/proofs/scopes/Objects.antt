@@ -13,9 +13,9 @@ use Rattle.ada_static_rules.specs.Declaring.{Declared, declared_object}
 use Rattle.ada_static_rules.specs.Demand.{MarkUse, stands_as_mark, must_be_static, must_lie_in, initializes, for_scalar, for_array}
 use Rattle.ada_static_rules.specs.Sites.{site, if_there, names_sites, expr_sites, static_of, constraint_sites, subind_sites, drange_sites, object_marks, component_marks, shape_sites, value_sites, free_value_sites, all_init_sites, array_init_sites, scalar_init_sites, is_task_object, object_marking, init_sites, object_sites}
 use Rattle.ada_static_rules.specs.RuleMismatch.{is_allowed}
-use Rattle.legal_programs.specs.alike_scopes.Alike.{SameNames, Alike}
-use Rattle.legal_programs.specs.alike_scopes.Old.{IsOldExpr, IsOldBounds, IsOldSubind, IsOldShape}
-use Rattle.legal_programs.specs.alike_scopes.Laws.{IsMetBut}
+use Rattle.task_laws.specs.legal.alike_scopes.Alike.{SameNames, Alike}
+use Rattle.task_laws.specs.legal.alike_scopes.Old.{IsOldExpr, IsOldBounds, IsOldSubind, IsOldShape}
+use Rattle.task_laws.specs.legal.alike_scopes.Laws.{IsMetBut}
 use Rattle.normal_laws.proofs.structure.typed.Variables.{AllMetBut, words-met}
 use Rattle.normal_laws.proofs.structure.typed.Stays.{stays, expr-stays, static-stays, constraint-stays, drange-stays}
 use Rattle.replay_structure.specs.scopes.More.{IsGrown, stays as same_thing, doubled, IsMore}

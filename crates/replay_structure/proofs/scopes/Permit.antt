@@ -13,12 +13,12 @@ use Rattle.ada_tree.specs.PlainProgram.{PProgram}
 use Rattle.ada_static_rules.specs.StaticValue.{value_named, mark_named}
 use Rattle.ada_static_rules.specs.Scope.{Scope, Thing, TypeMark, Variable, mark_at, meaning}
 use Rattle.ada_static_rules.specs.Declaring.{with_names, with_types, entry_part, task_thing, Declared, declared_object, with_constants, after_own_object, after_objects, after_decl, after_decls}
-use Rattle.legal_programs.specs.rewritten_types.Agreement.{Keeps, IsScalar}
-use Rattle.legal_programs.specs.rewritten_types.Rewriting.{IsNew, IsAdded}
-use Rattle.legal_programs.proofs.rewritten_types.Keeping.{keeps-self, keeps-on}
-use Rattle.legal_programs.proofs.rewritten_types.Adding.{keeps-objects, keeps-decl}
-use Rattle.legal_programs.proofs.alike_scopes.Tables.{value-kept}
-use Rattle.legal_programs.proofs.types.GoodScopes.{IsIn, names-new, names-kept}
+use Rattle.task_laws.specs.legal.rewritten_types.Agreement.{Keeps, IsScalar}
+use Rattle.task_laws.specs.legal.rewritten_types.Rewriting.{IsNew, IsAdded}
+use Rattle.task_laws.proofs.legal.rewritten_types.Keeping.{keeps-self, keeps-on}
+use Rattle.task_laws.proofs.legal.rewritten_types.Adding.{keeps-objects, keeps-decl}
+use Rattle.task_laws.proofs.legal.alike_scopes.Tables.{value-kept}
+use Rattle.task_laws.proofs.legal.types.GoodScopes.{IsIn, names-new, names-kept}
 use Rattle.normal_laws.proofs.structure.typed.Scopes.{meaning-more}
 use Rattle.replay_model.specs.Names.{kind_text, argument_text, index_text, added_id, added_word}
 use Rattle.replay_model.specs.ReplayTree.{permit_declared}

@@ -9,12 +9,12 @@ use Rattle.ada_static_rules.specs.Scope.{Scope, meaning}
 use Rattle.ada_static_rules.specs.StaticValue.{value_named}
 use Rattle.ada_static_rules.specs.Declaring.{after_own_object, after_decl, after_decls}
 use Rattle.task_model.specs.Setting.{Setting}
-use Rattle.legal_programs.specs.rewritten_types.Agreement.{Keeps}
-use Rattle.legal_programs.specs.rewritten_types.Rewriting.{IsAdded}
-use Rattle.legal_programs.proofs.rewritten_types.Adding.{keeps-objects}
-use Rattle.legal_programs.specs.alike_scopes.Alike.{SameNames}
-use Rattle.legal_programs.proofs.alike_scopes.Tables.{value-kept}
-use Rattle.legal_programs.proofs.alike_scopes.Inner.{own-object-main}
+use Rattle.task_laws.specs.legal.rewritten_types.Agreement.{Keeps}
+use Rattle.task_laws.specs.legal.rewritten_types.Rewriting.{IsAdded}
+use Rattle.task_laws.proofs.legal.rewritten_types.Adding.{keeps-objects}
+use Rattle.task_laws.specs.legal.alike_scopes.Alike.{SameNames}
+use Rattle.task_laws.proofs.legal.alike_scopes.Tables.{value-kept}
+use Rattle.task_laws.proofs.legal.alike_scopes.Inner.{own-object-main}
 use Rattle.replay_model.specs.Names.{kind_text, argument_text, index_text, added_id}
 use Rattle.replay_structure.specs.typed.Controller.{IsInteger}
 use Rattle.replay_structure.specs.scopes.More.{ArePermitsNew, IsReady}

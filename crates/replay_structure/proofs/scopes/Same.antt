@@ -9,7 +9,7 @@ use Rattle.ada_static_rules.specs.StaticValue.{is_static, value_of}
 use Rattle.ada_static_rules.specs.Scope.{Scope, Marking, ScalarMark, ArrayMark, TaskMark, NoMark, UnknownMark, UnclearMark, and_then, meaning, reading, reading_of, marking, marking_of, scalar_kind, range_of_mark}
 use Rattle.ada_static_rules.specs.ExprTypes.{kind_of, name_kind, component_kind, bound_kind, attribute_kind, unary_kind, binary_kind, takes, takes_one, is_kind, ok_value, static_in, range_between, static_range}
 use Rattle.ada_static_rules.specs.Declaring.{Made, made_range, made_array, made_subind, subind_made, given_range, marked_range, drange_range, object_meaning, of_made, task_object, task_array, plain_object, array_object, declared_object}
-use Rattle.legal_programs.specs.alike_scopes.Old.{IsOldExpr, IsOldBounds, IsOldSubind, IsOldDrange, IsOldShape}
+use Rattle.task_laws.specs.legal.alike_scopes.Old.{IsOldExpr, IsOldBounds, IsOldSubind, IsOldDrange, IsOldShape}
 use Rattle.replay_structure.specs.scopes.More.{IsGrown, stays, doubled, IsMore}
 
 module _ (q : PProgram) (old : ℕ → Bool) (c d : Scope) (more : IsMore q old c d) where

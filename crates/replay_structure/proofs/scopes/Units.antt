@@ -11,9 +11,9 @@ use Rattle.ada_static_rules.specs.Scope.{Scope}
 use Rattle.ada_static_rules.specs.Declaring.{inner_scope, in_body, Declared, constant_mark, add_constants, constant_value, declared_object, with_constants, after_own_object, after_objects, after_decl, after_decls}
 use Rattle.syn_event.specs.DeclaredTasks.{decl_list}
 use Rattle.task_model.specs.Setting.{Setting}
-use Rattle.legal_programs.specs.rewritten_types.Rewriting.{IsNew, IsAdded}
-use Rattle.legal_programs.proofs.rewritten_types.Keeping.{keeps-self}
-use Rattle.legal_programs.proofs.alike_scopes.Inner.{own-object-main}
+use Rattle.task_laws.specs.legal.rewritten_types.Rewriting.{IsNew, IsAdded}
+use Rattle.task_laws.proofs.legal.rewritten_types.Keeping.{keeps-self}
+use Rattle.task_laws.proofs.legal.alike_scopes.Inner.{own-object-main}
 use Rattle.normal_laws.proofs.structure.typed.Scopes.{differ}
 use Rattle.replay_model.specs.Names.{kind_text, argument_text, index_text, added_id}
 use Rattle.replay_model.specs.ReplayTree.{is_added_object, permit_declared, behind_own, replay_decl}

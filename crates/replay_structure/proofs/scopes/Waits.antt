@@ -5,12 +5,12 @@ use Rattle.ada_tree.specs.PlainStmt.{PAlts, no_alt, alt_then, alternative, AAcce
 use Rattle.syn_event.specs.CheckScope.{CheckScope, CheckSite, waits}
 use Rattle.syn_event.specs.CheckSites as check
 use Rattle.syn_event.specs.RuleSelectForm.{alt_kinds, is_accept, is_terminate, kinds_count, is_malformed, select_form}
-use Rattle.legal_programs.specs.asked.Asked.{AskedBody}
-use Rattle.legal_programs.specs.asked.Kinds.{check_asks}
+use Rattle.task_laws.specs.legal.asked.Asked.{AskedBody}
+use Rattle.task_laws.specs.legal.asked.Kinds.{check_asks}
 use Rattle.replay_structure.specs.typed.ScopeOf.{has_accept}
 use Rattle.replay_structure.proofs.scopes.Weaker.{AsksLess, asked_less}
 use Rattle.replay_structure.proofs.scopes.Asked.{wait_asks}
-use Rattle.legal_programs.proofs.sites.Around.{test-fails}
+use Rattle.task_laws.proofs.legal.sites.Around.{test-fails}
 
 some-accept : (x : PAlts) → (count_by is_accept (alt_kinds x) == 0) ≡ false → has_accept x ≡ true
 some-accept no_alt e = absurd (true≢false e)

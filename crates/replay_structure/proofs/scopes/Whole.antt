@@ -14,13 +14,13 @@ use Rattle.syn_event.specs.DeclaredTasks.{decl_list}
 use Rattle.task_model.specs.Setting.{Setting}
 use Rattle.control_script.specs.declared.Op.{Op}
 use Rattle.normal_model.specs.NormalTree.{main_unit}
-use Rattle.legal_programs.specs.alike_scopes.Alike.{Alike}
-use Rattle.legal_programs.specs.alike_scopes.Laws.{IsMetBut}
-use Rattle.legal_programs.specs.rewritten_types.Rewriting.{IsNew}
-use Rattle.legal_programs.specs.rewritten_types.Agreement.{Keeps}
-use Rattle.legal_programs.proofs.rewritten_types.Keeping.{keeps-self}
-use Rattle.legal_programs.proofs.rewritten_types.Adding.{keeps-objects}
-use Rattle.legal_programs.proofs.alike_scopes.Mains.{body-right}
+use Rattle.task_laws.specs.legal.alike_scopes.Alike.{Alike}
+use Rattle.task_laws.specs.legal.alike_scopes.Laws.{IsMetBut}
+use Rattle.task_laws.specs.legal.rewritten_types.Rewriting.{IsNew}
+use Rattle.task_laws.specs.legal.rewritten_types.Agreement.{Keeps}
+use Rattle.task_laws.proofs.legal.rewritten_types.Keeping.{keeps-self}
+use Rattle.task_laws.proofs.legal.rewritten_types.Adding.{keeps-objects}
+use Rattle.task_laws.proofs.legal.alike_scopes.Mains.{body-right}
 use Rattle.normal_laws.proofs.structure.numbers.Listed.{IsOneBody}
 use Rattle.normal_laws.proofs.structure.typed.Variables.{AllMetBut, words-met}
 use Rattle.replay_model.specs.Names.{kind_text, argument_text, index_text, control_text, idle_text, added_id, added_word}

@@ -12,7 +12,7 @@ use Rattle.replay_model.specs.Names.{never_text, join_text, replay_names}
 use Rattle.replay_model.specs.ReplayTree.{last_task}
 use Rattle.replay_model.specs.ReplayNumbers.{plain_info, double_info, own_entries, more_infos, all_infos, added_infos, numbers_replayed}
 use Rattle.run_laws.specs.replaying.Copies.{Spots, HasOwners}
-use Rattle.legal_programs.proofs.rewritten_types.Lookups.{place-more}
+use Rattle.task_laws.proofs.legal.rewritten_types.Lookups.{place-more}
 use Rattle.replay_structure.specs.spots.Places.{total, end_place, original_place, double_place, never_place, join_place, bound, number_or, counts, entries_from, text_spots}
 use Rattle.replay_structure.specs.spots.Laws.{IsInOrder, IsThere, AreThere, SpotsAreThere, SpotsHaveOwners}
 use Rattle.replay_structure.proofs.spots.Sorted.{not-less}

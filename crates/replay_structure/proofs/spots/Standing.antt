@@ -12,7 +12,7 @@ use Rattle.replay_model.specs.Names.{double_text, replay_names}
 use Rattle.replay_model.specs.ReplayTree.{last_task}
 use Rattle.replay_model.specs.ReplayNumbers.{double_info, all_infos, added_infos, numbers_replayed}
 use Rattle.run_laws.specs.replaying.Copies.{Spots}
-use Rattle.legal_programs.proofs.rewritten_types.Lookups.{place-all}
+use Rattle.task_laws.proofs.legal.rewritten_types.Lookups.{place-all}
 use Rattle.normal_laws.proofs.structure.numbers.Named.{text-there, text-longer}
 use Rattle.replay_structure.proofs.texts.Rooted.{replay-begins}
 use Rattle.replay_structure.specs.spots.Places.{counts, text_spots}

@@ -19,11 +19,11 @@ use Rattle.normal_model.proofs.VariablesLemmas.{Begins, begins-trans}
 use Rattle.replay_model.specs.Names.{kind_text, argument_text, index_text, added_texts, double_texts, replay_names, added_id}
 use Rattle.replay_model.specs.ReplayTree.{is_added_object, behind_own, permit_declared, replay_decl, last_task, replay_decls, normal_setting, script_of}
 use Rattle.replay_model.specs.Controlling.{control_declared, idle_declared, control_body, idle_body}
-use Rattle.legal_programs.specs.rewritten_types.Agreement.{Rooted}
-use Rattle.legal_programs.specs.rewritten_types.Rewriting.{IsAdded, AreAdded}
-use Rattle.legal_programs.specs.rewritten_types.Laws.{behind}
-use Rattle.legal_programs.proofs.rewritten_types.Rooting.{rewritten_is_rooted, rooted_agrees}
-use Rattle.legal_programs.specs.rewritten_values.Values.{old_names}
+use Rattle.task_laws.specs.legal.rewritten_types.Agreement.{Rooted}
+use Rattle.task_laws.specs.legal.rewritten_types.Rewriting.{IsAdded, AreAdded}
+use Rattle.task_laws.specs.legal.rewritten_types.Laws.{behind}
+use Rattle.task_laws.proofs.legal.rewritten_types.Rooting.{rewritten_is_rooted, rooted_agrees}
+use Rattle.task_laws.specs.legal.rewritten_values.Values.{old_names}
 use Rattle.normal_laws.specs.structure.types.Own.{own_name}
 use Rattle.normal_laws.specs.structure.types.Laws.{setting_of, AreOwn}
 use Rattle.normal_laws.proofs.structure.types.Names.{fold-begins, added_names_are_new}

@@ -18,7 +18,7 @@ use Rattle.normal_laws.specs.structure.checked.Around.{own_rules}
 use Rattle.replay_model.specs.Asking.{member_number}
 use Rattle.replay_model.specs.Serving.{permits_start}
 use Rattle.replay_structure.specs.asked.Pieces.{never_head}
-use Rattle.legal_programs.specs.alike_scopes.Laws.{IsMetBut}
+use Rattle.task_laws.specs.legal.alike_scopes.Laws.{IsMetBut}
 use Rattle.normal_laws.proofs.structure.typed.Places.{met-accepts}
 use Rattle.normal_laws.proofs.structure.typed.Variables.{AllMetBut}
 use Rattle.normal_laws.proofs.structure.typed.Calls.{fits-told, as_family}

@@ -27,10 +27,10 @@ use Rattle.replay_model.specs.Names.{kind_text, argument_text, index_text, added
 use Rattle.replay_model.specs.Asking.{permit_part, member_number}
 use Rattle.replay_model.specs.Calling.{double_call}
 use Rattle.replay_structure.specs.asked.Pieces.{asks_permit, says_done, stops}
-use Rattle.legal_programs.specs.alike_scopes.Alike.{Alike, IsSameTask}
-use Rattle.legal_programs.specs.alike_scopes.Old.{IsOldExpr}
-use Rattle.legal_programs.specs.alike_scopes.Laws.{IsMetBut}
-use Rattle.legal_programs.proofs.alike_scopes.Calls.{called_is_same, tasks_refuse_same, calls_refuse_same}
+use Rattle.task_laws.specs.legal.alike_scopes.Alike.{Alike, IsSameTask}
+use Rattle.task_laws.specs.legal.alike_scopes.Old.{IsOldExpr}
+use Rattle.task_laws.specs.legal.alike_scopes.Laws.{IsMetBut}
+use Rattle.task_laws.proofs.legal.alike_scopes.Calls.{called_is_same, tasks_refuse_same, calls_refuse_same}
 use Rattle.normal_laws.proofs.structure.typed.Places.{met-callee, met-calls, met-of}
 use Rattle.normal_laws.proofs.structure.typed.Variables.{AllMetBut, of-kind, actual-met}
 use Rattle.normal_laws.proofs.structure.typed.Calls.{fits-told, entry-there, as_family}

@@ -21,11 +21,11 @@ use Rattle.ada_static_rules.specs.RuleMismatch.{is_allowed, target_kind}
 use Rattle.ada_static_rules.specs.RuleNotVariable.{whole_written, is_array, is_variable}
 use Rattle.ada_static_rules.specs.RuleArrayUse.{whole_array}
 use Rattle.ada_static_rules.specs.RuleArgCount.{at_place, fits_accept, are_same, written_formals, wrong_accept}
-use Rattle.legal_programs.proofs.types.GoodScopes.{IsIn, names-new}
+use Rattle.task_laws.proofs.legal.types.GoodScopes.{IsIn, names-new}
 use Rattle.normal_model.specs.Ranges.{word_at}
 use Rattle.replay_model.specs.Names.{kind_text, argument_text, index_text, idle_text, rest_text, added_id, added_word}
 use Rattle.replay_model.specs.Controlling.{permit_formals, idle_body}
-use Rattle.legal_programs.specs.alike_scopes.Laws.{IsMetBut}
+use Rattle.task_laws.specs.legal.alike_scopes.Laws.{IsMetBut}
 use Rattle.normal_laws.specs.structure.typed.ScopeOf.{MeansInteger}
 use Rattle.normal_laws.proofs.structure.typed.Places.{met-declares, met-of, met-writes, met-accepts, gives-met}
 use Rattle.normal_laws.proofs.structure.typed.Variables.{AllMetBut, of-kind}
@@ -33,7 +33,7 @@ use Rattle.normal_laws.proofs.structure.typed.Literals.{integer-marked}
 use Rattle.replay_structure.specs.typed.ScopeOf.{HasLists, permit_parts}
 use Rattle.replay_structure.specs.typed.Controller.{IsInteger, IsIdler}
 use Rattle.replay_structure.proofs.typed.Calls.{listed}
-use Rattle.legal_programs.proofs.alike_scopes.Marks.{scalar-reading}
+use Rattle.task_laws.proofs.legal.alike_scopes.Marks.{scalar-reading}
 
 -- ---- INTEGER
 

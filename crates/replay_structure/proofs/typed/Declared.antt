@@ -21,8 +21,8 @@ use Rattle.normal_model.specs.Ranges.{integer_subtype}
 use Rattle.replay_model.specs.Names.{kind_text, argument_text, index_text, go_text, done_text, hold_text, stop_text, rest_text, never_text, join_text, added_word}
 use Rattle.replay_model.specs.ReplayTree.{permit_declared, double_entry, more_entries}
 use Rattle.replay_model.specs.Controlling.{added_entry, all_tasks, permit_formals, control_declared, idle_declared}
-use Rattle.legal_programs.specs.alike_scopes.Alike.{Alike}
-use Rattle.legal_programs.specs.alike_scopes.Laws.{IsMetBut}
+use Rattle.task_laws.specs.legal.alike_scopes.Alike.{Alike}
+use Rattle.task_laws.specs.legal.alike_scopes.Laws.{IsMetBut}
 use Rattle.normal_laws.specs.structure.typed.ScopeOf.{MeansInteger}
 use Rattle.normal_laws.proofs.structure.typed.Places.{met-declares, met-static, met-in}
 use Rattle.normal_laws.proofs.structure.typed.Variables.{AllMetBut, words-met}

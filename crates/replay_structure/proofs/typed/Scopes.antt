@@ -16,12 +16,12 @@ use Rattle.ada_static_rules.specs.Sites.{all_names, loop_scope}
 use Rattle.ada_static_rules.specs.RuleArgCount.{called_entry}
 use Rattle.syn_event.specs.Numbering.{task_named}
 use Rattle.task_model.specs.Setting.{Setting, entry_of}
-use Rattle.legal_programs.specs.rewritten_types.Agreement.{IsScalar}
+use Rattle.task_laws.specs.legal.rewritten_types.Agreement.{IsScalar}
 use Rattle.normal_model.specs.RewrittenUnit.{RewrittenUnit}
 use Rattle.normal_model.specs.Ranges.{kind_name}
 use Rattle.normal_laws.specs.structure.checked.Around.{own_rules}
-use Rattle.legal_programs.specs.alike_scopes.Alike.{Alike}
-use Rattle.legal_programs.proofs.alike_scopes.Inner.{inside_is_alike, formals_are_alike, loop_is_alike}
+use Rattle.task_laws.specs.legal.alike_scopes.Alike.{Alike}
+use Rattle.task_laws.proofs.legal.alike_scopes.Inner.{inside_is_alike, formals_are_alike, loop_is_alike}
 use Rattle.normal_laws.proofs.structure.typed.Stays.{old-formals, old-drange}
 use Rattle.normal_laws.proofs.structure.typed.Scopes.{IsNoTask, differ, meaning-more, not-called, formal-no-task, loop-no-task}
 use Rattle.replay_model.specs.Names.{control_text, idle_text, never_text, added_id}

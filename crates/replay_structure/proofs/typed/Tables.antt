@@ -32,13 +32,13 @@ use Rattle.ada_static_rules.specs.RuleReadOut.{out_formal}
 use Rattle.ada_static_rules.specs.RuleArrayUse.{whole_array}
 use Rattle.ada_static_rules.specs.RuleChoiceBad.{mark_of_part, mark_of_object, selected_range}
 use Rattle.control_script.specs.declared.Op.{Op}
-use Rattle.legal_programs.specs.rewritten_types.Agreement.{Grows, Keeps, IsScalar}
-use Rattle.legal_programs.specs.rewritten_types.Rewriting.{IsAdded}
-use Rattle.legal_programs.proofs.rewritten_types.Keeping.{grows-on, grows-mark, grows-kind, keeps-self}
-use Rattle.legal_programs.proofs.rewritten_types.Adding.{keeps-objects}
-use Rattle.legal_programs.proofs.alike_scopes.Inner.{own-object-main}
-use Rattle.legal_programs.proofs.alike_scopes.Marks.{kind-ranged, scalar-reading, range-grown, scalar-grown}
-use Rattle.legal_programs.specs.alike_scopes.Laws.{IsMetBut}
+use Rattle.task_laws.specs.legal.rewritten_types.Agreement.{Grows, Keeps, IsScalar}
+use Rattle.task_laws.specs.legal.rewritten_types.Rewriting.{IsAdded}
+use Rattle.task_laws.proofs.legal.rewritten_types.Keeping.{grows-on, grows-mark, grows-kind, keeps-self}
+use Rattle.task_laws.proofs.legal.rewritten_types.Adding.{keeps-objects}
+use Rattle.task_laws.proofs.legal.alike_scopes.Inner.{own-object-main}
+use Rattle.task_laws.proofs.legal.alike_scopes.Marks.{kind-ranged, scalar-reading, range-grown, scalar-grown}
+use Rattle.task_laws.specs.legal.alike_scopes.Laws.{IsMetBut}
 use Rattle.normal_model.specs.Ranges.{word_at, integer_subtype}
 use Rattle.normal_model.specs.Members.{integer_literal}
 use Rattle.normal_laws.specs.structure.placed.Placeable.{IsSmallIndex}

@@ -20,14 +20,14 @@ use Rattle.ada_static_rules.specs.RuleRangeBad.{is_fixed, raised, raises}
 use Rattle.ada_static_rules.specs.RuleReadOut.{out_formal}
 use Rattle.ada_static_rules.specs.RuleArrayUse.{whole_array}
 use Rattle.normal_model.specs.Ranges.{word_at, integer_subtype}
-use Rattle.legal_programs.specs.alike_scopes.Laws.{IsMetBut}
+use Rattle.task_laws.specs.legal.alike_scopes.Laws.{IsMetBut}
 use Rattle.normal_laws.specs.structure.typed.ScopeOf.{IsVariableOf}
 use Rattle.normal_laws.proofs.structure.typed.Places.{met-whole, met-node, met-of}
 use Rattle.normal_laws.proofs.structure.typed.Variables.{AllMetBut, variable-kind, variable-changes, variable-met}
 use Rattle.normal_laws.proofs.structure.typed.Tests.{IsMetNode, nodes-met, met-nodes, loose}
 use Rattle.replay_structure.specs.typed.ScopeOf.{IsNumber}
 use Rattle.common_lemmas.proofs.Truth.{and_both}
-use Rattle.legal_programs.proofs.sites.Around.{test-fails}
+use Rattle.task_laws.proofs.legal.sites.Around.{test-fails}
 
 -- ---- kinds
 

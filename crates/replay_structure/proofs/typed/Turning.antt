@@ -25,11 +25,11 @@ use Rattle.ada_static_rules.proofs.found_twice.Declared.{objects_own}
 use Rattle.syn_event.specs.declared.numbering.TaskInfo.{TaskInfo}
 use Rattle.task_model.specs.Setting.{Setting}
 use Rattle.control_script.specs.declared.Op.{Op}
-use Rattle.legal_programs.specs.rewritten_types.Agreement.{IsScalar}
-use Rattle.legal_programs.specs.alike_scopes.Laws.{IsMetBut}
-use Rattle.legal_programs.proofs.rewritten_types.Keeping.{grows-self, keeps-self}
-use Rattle.legal_programs.proofs.rewritten_types.Adding.{keeps-objects}
-use Rattle.legal_programs.proofs.types.GoodScopes.{IsIn, names-kept}
+use Rattle.task_laws.specs.legal.rewritten_types.Agreement.{IsScalar}
+use Rattle.task_laws.specs.legal.alike_scopes.Laws.{IsMetBut}
+use Rattle.task_laws.proofs.legal.rewritten_types.Keeping.{grows-self, keeps-self}
+use Rattle.task_laws.proofs.legal.rewritten_types.Adding.{keeps-objects}
+use Rattle.task_laws.proofs.legal.types.GoodScopes.{IsIn, names-kept}
 use Rattle.normal_model.specs.Making.{one}
 use Rattle.normal_model.specs.Ranges.{word_at}
 use Rattle.normal_laws.proofs.structure.typed.Places.{met-chooses, met-exception, met-handles, gives-met}

@@ -14,12 +14,12 @@ use Rattle.ada_static_rules.specs.RuleArrayUse.{array_in_node}
 use Rattle.task_model.specs.Setting.{Setting}
 use Rattle.normal_model.specs.Calls.{entry_called, lists_called}
 use Rattle.normal_model.specs.RewrittenUnit.{RewrittenUnit}
-use Rattle.legal_programs.specs.asked.Asked.{Asks, AskedAlts, AskedKind, AskedBody}
-use Rattle.legal_programs.specs.asked.Kinds.{type_asks}
-use Rattle.legal_programs.proofs.asked.Typed.{asked_typed}
+use Rattle.task_laws.specs.legal.asked.Asked.{Asks, AskedAlts, AskedKind, AskedBody}
+use Rattle.task_laws.specs.legal.asked.Kinds.{type_asks}
+use Rattle.task_laws.proofs.legal.asked.Typed.{asked_typed}
 use Rattle.normal_laws.specs.structure.checked.Around.{own_rules}
-use Rattle.legal_programs.specs.alike_scopes.Old.{IsOldExpr, IsOldChoice}
-use Rattle.legal_programs.specs.alike_scopes.Laws.{IsMetBut}
+use Rattle.task_laws.specs.legal.alike_scopes.Old.{IsOldExpr, IsOldChoice}
+use Rattle.task_laws.specs.legal.alike_scopes.Laws.{IsMetBut}
 use Rattle.normal_laws.proofs.structure.typed.Cases.{with_cases, cases_asked}
 use Rattle.normal_laws.proofs.structure.typed.Stays.{old-expr, old-choices, no-array, condition-stays, loop-stays, choices-stay, selector-stays, handler-stays, plain-stays}
 use Rattle.replay_model.specs.Names.{control_text, idle_text, added_word}

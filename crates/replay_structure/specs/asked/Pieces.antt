@@ -9,7 +9,7 @@ use Rattle.ada_tree.specs.PlainExpr.{PExpr, EInteger, EBinary}
 use Rattle.ada_tree.specs.PlainStmt.{PCallee, PArgs, PCall, PChoice, PScheme, PHead, PStmt, SNull, PStmts, PMaybe, accepting, PAlt, alternative, AAccept, ADelay, ATerminate, PAlts, no_alt, alt_then, PHandlers, no_handler}
 use Rattle.normal_model.specs.RewrittenUnit.{RewrittenUnit}
 use Rattle.normal_model.specs.Walk.{inside_handlers}
-use Rattle.legal_programs.specs.asked.Asked.{Asks, AskedAlts}
+use Rattle.task_laws.specs.legal.asked.Asked.{Asks, AskedAlts}
 use Rattle.normal_laws.specs.structure.asked.Pieces.{IsPlain, named}
 use Rattle.replay_model.specs.Names.{kind_text, argument_text, index_text, control_text, go_text, done_text, idle_text, stop_text, never_text, added_word}
 use Rattle.replay_model.specs.Asking.{permit_part, permit_is_kind, permit_is_for}

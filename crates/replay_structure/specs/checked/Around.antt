@@ -13,7 +13,7 @@ use Rattle.syn_event.specs.RuleAcceptPlace.{is_among, is_own_entry}
 use Rattle.syn_event.specs.RuleMainEntry.{main_entry}
 use Rattle.syn_event.specs.RuleSharedVariable.{in_body_of, shared_variable}
 use Rattle.syn_event.specs.DeclaredTasks.{text_of}
-use Rattle.legal_programs.specs.asked.Asked.{Asks}
+use Rattle.task_laws.specs.legal.asked.Asked.{Asks}
 use Rattle.replay_model.specs.Names.{kind_text, argument_text, index_text, control_text, idle_text, never_text, added_id, added_word}
 
 -- ---- names

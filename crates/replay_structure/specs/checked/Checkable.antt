@@ -14,7 +14,7 @@ use Rattle.syn_event.specs.Extents.{size, is_array_type}
 use Rattle.syn_event.specs.DeclaredTasks.{text_of, decl_list, tasks_of}
 use Rattle.task_model.specs.Setting.{Setting}
 use Rattle.control_script.specs.declared.Op.{Op}
-use Rattle.legal_programs.specs.asked.Asked.{AskedBody}
+use Rattle.task_laws.specs.legal.asked.Asked.{AskedBody}
 use Rattle.normal_laws.specs.structure.numbers.Single.{IsSingle}
 use Rattle.replay_model.specs.ReplayTree.{is_task, is_body, last_task, replay_of}
 use Rattle.replay_structure.specs.checked.Around.{kept_name, kept_names, form_asks}

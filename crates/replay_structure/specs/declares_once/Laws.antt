@@ -12,7 +12,7 @@ use Rattle.normal_model.specs.RewrittenUnit.{RewrittenUnit}
 use Rattle.normal_model.specs.NormalTree.{normal_tree}
 use Rattle.normal_laws.specs.runs.forms.Choosing.{choosing}
 use Rattle.normal_laws.specs.runs.forms.Normalisable.{numbers_of, made_for}
-use Rattle.legal_programs.specs.literals.Colours.{coloured}
+use Rattle.task_laws.specs.legal.literals.Colours.{coloured}
 use Rattle.normal_laws.specs.existence.Laws.{IsLegalOriginal}
 use Rattle.normal_laws.specs.structure.once.Once.{AllOnce}
 use Rattle.normal_laws.specs.structure.once.Names.{body_names}

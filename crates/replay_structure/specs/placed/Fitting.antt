@@ -12,7 +12,7 @@ use Rattle.syn_event.specs.DeclaredTasks.{text_of}
 use Rattle.task_model.specs.Setting.{entry_of}
 use Rattle.normal_model.specs.Calls.{entry_called, lists_called}
 use Rattle.normal_model.specs.RewrittenUnit.{RewrittenUnit}
-use Rattle.legal_programs.specs.asked.Asked.{Asks}
+use Rattle.task_laws.specs.legal.asked.Asked.{Asks}
 use Rattle.replay_model.specs.Names.{double_text}
 use Rattle.replay_model.specs.Asking.{member_number}
 

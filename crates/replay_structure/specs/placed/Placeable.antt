@@ -10,7 +10,7 @@ use Rattle.event_machine.specs.declared.Event.TheVariants.{R, C, T, F}
 use Rattle.control_script.specs.declared.Op.{Op}
 use Rattle.control_script.specs.declared.Op.TheVariants.{Go, Done, Join, Hold}
 use Rattle.task_model.specs.Setting.{Setting}
-use Rattle.legal_programs.specs.asked.Asked.{AskedBody}
+use Rattle.task_laws.specs.legal.asked.Asked.{AskedBody}
 use Rattle.normal_model.specs.NormalTree.{unit_for, main_unit}
 use Rattle.normal_laws.specs.structure.placed.Placeable.{IsName, IsSmallIndex, MarksHaveNames}
 use Rattle.replay_model.specs.Names.{double_text}

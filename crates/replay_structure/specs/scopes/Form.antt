@@ -21,11 +21,11 @@ use Rattle.control_script.specs.declared.Op.{Op}
 use Rattle.normal_model.specs.Ranges.{kind_name}
 use Rattle.normal_model.specs.RewrittenUnit.{RewrittenUnit}
 use Rattle.normal_model.specs.NormalTree.{main_unit, unit_for}
-use Rattle.legal_programs.specs.asked.Asked.{AskedBody}
+use Rattle.task_laws.specs.legal.asked.Asked.{AskedBody}
 use Rattle.normal_laws.specs.structure.checked.Around.{own_rules}
-use Rattle.legal_programs.specs.alike_scopes.Alike.{SameNames}
-use Rattle.legal_programs.specs.alike_scopes.Old.{IsOldExpr, IsOldSubind, IsOldDrange, IsOldShape, AreOldFormals}
-use Rattle.legal_programs.specs.alike_scopes.Laws.{IsMetBut}
+use Rattle.task_laws.specs.legal.alike_scopes.Alike.{SameNames}
+use Rattle.task_laws.specs.legal.alike_scopes.Old.{IsOldExpr, IsOldSubind, IsOldDrange, IsOldShape, AreOldFormals}
+use Rattle.task_laws.specs.legal.alike_scopes.Laws.{IsMetBut}
 use Rattle.replay_model.specs.Names.{kind_text, argument_text, index_text, control_text, go_text, done_text, hold_text, idle_text, stop_text, rest_text, added_id}
 use Rattle.replay_model.specs.ReplayTree.{is_added_object, is_task, is_body}
 use Rattle.replay_structure.specs.placed.Placeable.{HasLiterals}

@@ -12,9 +12,9 @@ use Rattle.syn_event.specs.AllNumbers.{all_numbers}
 use Rattle.normal_model.specs.NormalTree.{first_decls}
 use Rattle.replay_model.specs.ReplayTree.{replay_tree}
 use Rattle.replay_model.specs.ReplayNumbers.{replay_numbers}
-use Rattle.legal_programs.specs.rewritten_types.Agreement.{Rooted, Agrees}
-use Rattle.legal_programs.specs.rewritten_types.Laws.{behind}
-use Rattle.legal_programs.specs.rewritten_values.Values.{old_names}
+use Rattle.task_laws.specs.legal.rewritten_types.Agreement.{Rooted, Agrees}
+use Rattle.task_laws.specs.legal.rewritten_types.Laws.{behind}
+use Rattle.task_laws.specs.legal.rewritten_values.Values.{old_names}
 use Rattle.normal_laws.specs.structure.types.Own.{own_name}
 use Rattle.normal_laws.specs.structure.types.Laws.{IsOrdered, AreOwn}
 use Rattle.normal_laws.specs.structure.numbers.Laws.{NoneIsDed}

@@ -4,7 +4,7 @@ use Rattle.event_machine.specs.declared.Event.{Event}
 use Rattle.syn_event.specs.Numbering.{Numbering}
 use Rattle.seq_file.specs.Files.{most_events, header_fault}
 use Rattle.seq_file.specs.Known.{is_known}
-use Rattle.text_lines.specs.Lines.{is_line_end, cut}
+use Rattle.seq_file.specs.text_lines.Lines.{is_line_end, cut}
 use Rattle.seq_file.specs.Lines.{event_of_line}
 
 -- the rest of a file begins with the line of an event that the program has, and goes on with the bytes behind it

@@ -2,8 +2,8 @@
 use Rattle.std.specs.Prelude.{◌≡◌, ◌≤◌, ◌<◌, ◌+◌, ℕ, false, List, ◌++◌, length, ◌⊎◌, Some, None}
 use Rattle.event_machine.specs.declared.Event.{Event}
 use Rattle.syn_event.specs.Numbering.{Numbering}
-use Rattle.text_lines.specs.Capped.{capped}
-use Rattle.text_lines.specs.Lines.{is_line_end, cut}
+use Rattle.seq_file.specs.text_lines.Capped.{capped}
+use Rattle.seq_file.specs.text_lines.Lines.{is_line_end, cut}
 use Rattle.seq_file.specs.declared.errors.SeqError.{SeqError}
 use Rattle.seq_file.specs.declared.list_reading.Place.{Place}
 use Rattle.seq_file.specs.Files.{is_end, has_ended}

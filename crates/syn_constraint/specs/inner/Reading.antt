@@ -3,8 +3,8 @@ use Rattle.std.specs.Prelude.{◌≡◌, ℕ, ℤ, pos, negsuc, List, [], ◌∷
 use Rattle.std.specs.Borrow.{Bor}
 use Rattle.syn_event.specs.declared.numbering.EntryInfo.{EntryInfo}
 use Rattle.syn_event.specs.Numbering.{Numbering, entry_at}
-use Rattle.text_lines.specs.Lines.{is_line_end, cut, words_of}
-use Rattle.text_lines.specs.Capped.{capped_integer}
+use Rattle.seq_file.specs.text_lines.Lines.{is_line_end, cut, words_of}
+use Rattle.seq_file.specs.text_lines.Capped.{capped_integer}
 use Rattle.syn_constraint.specs.declared.constraints.Num.{Num}
 use Rattle.syn_constraint.specs.declared.constraints.Num.TheVariants.{Every, Same, Exact}
 use Rattle.syn_constraint.specs.declared.constraints.Pattern.{Pattern}

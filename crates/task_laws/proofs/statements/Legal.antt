@@ -23,8 +23,8 @@ use Rattle.syn_event.specs.CheckRefusals.{MeetsCheckRules}
 use Rattle.syn_event.specs.RuleExitPlace as rule
 use Rattle.task_model.specs.Frames.{is_left}
 use Rattle.task_model.specs.Starting.{Unit, unit_of_decl, unit_among, unit_of_info, unit_of}
-use Rattle.legal_programs.specs.sites.Met.{IsCheckMet}
-use Rattle.legal_programs.proofs.sites.Meeting.{all_check_met}
+use Rattle.task_laws.specs.legal.sites.Met.{IsCheckMet}
+use Rattle.task_laws.proofs.legal.sites.Meeting.{all_check_met}
 use Rattle.common_lemmas.proofs.Lists.{all_front, all_back, not_empty}
 use Rattle.task_laws.specs.statements.Each.{Loops, InParts, InStmts, InMaybe, InAccept, InAltKind, InAlts, InArms, InCaseArms, InBody, InHandlers}
 use Rattle.task_laws.specs.statements.Laws.{ExitLeaves, LegalExitsLeave}

@@ -8,9 +8,9 @@ use Rattle.normal_laws.specs.runs.forms.Normalisable.{numbers_of}
 use Rattle.read_back.proofs.Whole.{read_back}
 use Rattle.collect_model.specs.CollectTree.{collect_tree}
 use Rattle.collect_structure.proofs.legal.Placed.{legal_collect_is_placed}
-use Rattle.abort_model.specs.AbortTree.{abort_tree}
-use Rattle.abort_model.specs.Promised.{has_abort}
-use Rattle.abort_structure.proofs.legal.Placed.{legal_abort_is_placed}
+use Rattle.collect_model.specs.aborts.AbortTree.{abort_tree}
+use Rattle.collect_model.specs.aborts.Promised.{has_abort}
+use Rattle.collect_structure.proofs.aborts.legal.Placed.{legal_abort_is_placed}
 use Rattle.text_laws.proofs.normal.Instance.{calling-is-legal}
 use Rattle.text_laws.proofs.normal.Joined.{text_is_legal}
 use Rattle.text_laws.specs.collect_read_back.Laws.{CollectIsPlaced, CollectIsReadBack, IsMet}

@@ -14,7 +14,7 @@ use Rattle.normal_laws.specs.existence.units.Weights.{body_weight}
 use Rattle.normal_laws.specs.runs.forms.Normalisable.{numbers_of, setting_for, made_for}
 use Rattle.normal_laws.proofs.existence.units.Few.{body-few}
 use Rattle.normal_laws.proofs.legality.Legal.{normal_has_names}
-use Rattle.replay_is_legal.proofs.fits.Counted.{tasks-within, entries-within}
+use Rattle.replay_structure.proofs.legal.fits.Counted.{tasks-within, entries-within}
 use Rattle.text_laws.specs.sizes.Weight.{decls_weight, program_weight}
 use Rattle.text_laws.specs.normal.Laws.{TextHasFewParts, TextNormalHasNames}
 use Rattle.text_laws.proofs.sizes.Read.{few-interned, read_has_few_names, read_weighs_little}

@@ -7,7 +7,7 @@ use Rattle.normal_laws.specs.runs.forms.Normalisable.{numbers_of}
 use Rattle.text_laws.proofs.normal.Joined.{text_is_legal}
 use Rattle.read_back.proofs.Whole.{read_back}
 use Rattle.replay_model.specs.Promised.{IsReplayText}
-use Rattle.replay_is_legal.proofs.names.Legal.{replay_is_as_promised}
+use Rattle.replay_structure.proofs.legal.names.Legal.{replay_is_as_promised}
 use Rattle.text_laws.specs.replay_read_back.Laws.{ReplayIsPromised, ReplayIsReadBack}
 
 -- the text of an answer, or another one

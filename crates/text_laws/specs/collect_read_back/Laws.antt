@@ -7,7 +7,7 @@ use Rattle.ada_tree.specs.Same.{Same}
 use Rattle.ada_parser.specs.Reads.{Reads}
 use Rattle.ada_printer.specs.ProgramText.{program_text}
 use Rattle.normal_laws.specs.runs.forms.Normalisable.{numbers_of}
-use Rattle.abort_model.specs.Collecting.{collecting_tree}
+use Rattle.collect_model.specs.aborts.Collecting.{collecting_tree}
 use Rattle.text_laws.specs.normal.Example.{calling_text, calling}
 use Rattle.text_laws.specs.normal.Laws.{IsOriginalText}
 

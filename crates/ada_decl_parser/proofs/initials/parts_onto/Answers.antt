@@ -1,5 +1,5 @@
 use Rattle.std.proofs.Common.{sym, ◌∙◌, rules, map}
-use Rattle.lawful_reader.specs.Readers.{items, fronted}
+use Rattle.ada_expr_parser.specs.readers.Readers.{items, fronted}
 use Rattle.ada_tree.specs.PlainExpr.{plain_expr}
 use Rattle.ada_lexer.specs.declared.symbols.Symbol.TheVariants as key
 use Rattle.ada_expr_parser.specs.Parts.{expression}

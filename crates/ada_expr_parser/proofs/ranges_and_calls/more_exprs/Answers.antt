@@ -1,6 +1,6 @@
 use Rattle.std.proofs.Common.{◌≡◌, ◌++◌, ◌∷◌, [], map, refl, sym, ap, ◌∙◌, arith}
 use Rattle.std.proofs.lemmas.List.{map-append}
-use Rattle.lawful_reader.specs.Readers.{fronted, items_in}
+use Rattle.ada_expr_parser.specs.readers.Readers.{fronted, items_in}
 use Rattle.ada_tree.specs.PlainExpr.{plain_expr}
 use Rattle.ada_expr_parser.specs.Parts.{is_comma, next_expr}
 use Rattle.ada_expr_parser.proofs.Lists.{list_goes}

@@ -1,5 +1,5 @@
 use Rattle.std.proofs.Common.{◌≡◌, ℕ, ◌≤◌, length, map}
-use Rattle.lawful_reader.specs.Readers.{fronted, items_in}
+use Rattle.ada_expr_parser.specs.readers.Readers.{fronted, items_in}
 use Rattle.ada_tree.specs.PlainExpr.{plain_expr}
 use Rattle.ada_expr_parser.specs.Parts.{is_comma, next_expr, more_exprs}
 use Rattle.ada_expr_parser.proofs.ranges_and_calls.more_exprs.Given as goal

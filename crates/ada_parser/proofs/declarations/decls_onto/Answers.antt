@@ -1,5 +1,5 @@
 use Rattle.std.proofs.Common.{◌≡◌, ◌||◌, false, sym, ap, ◌∙◌, rules, map}
-use Rattle.lawful_reader.specs.Readers.{fronted}
+use Rattle.ada_expr_parser.specs.readers.Readers.{fronted}
 use Rattle.ada_tree.specs.PlainDecl.{plain_decl}
 use Rattle.ada_parser.specs.inner.ReadingDeclarativeParts.{begins_behind, is_body, decl, decl_list}
 use Rattle.ada_phrase_parser.specs.Views.{told}

@@ -1,4 +1,4 @@
-use Rattle.lawful_reader.proofs.Exactly.{finds_exactly, faults_exactly}
+use Rattle.ada_expr_parser.proofs.readers.Exactly.{finds_exactly, faults_exactly}
 use Rattle.ada_expr_parser.specs.declared.levels.Level.TheVariants.{Logical, Simple}
 use Rattle.ada_expr_parser.specs.Reading.{expr}
 use Rattle.ada_expr_parser.specs.Parts as parts

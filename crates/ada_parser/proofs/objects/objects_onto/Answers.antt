@@ -1,5 +1,5 @@
 use Rattle.std.proofs.Common.{sym, ◌∙◌, rules, map}
-use Rattle.lawful_reader.specs.Readers.{items, fronted}
+use Rattle.ada_expr_parser.specs.readers.Readers.{items, fronted}
 use Rattle.ada_tree.specs.PlainDecl.{plain_decl}
 use Rattle.ada_decl_parser.specs.inner.ReadingDeclarations.{object}
 use Rattle.ada_parser.specs.inner.ReadingDeclarativeParts.{begins_object}

@@ -1,5 +1,5 @@
 use Rattle.std.proofs.Common.{◌≡◌, sym, subst}
-use Rattle.lawful_reader.specs.Readers.{Found}
+use Rattle.ada_expr_parser.specs.readers.Readers.{Found}
 use Rattle.ada_expr_parser.specs.Gives.{Fails}
 use Rattle.ada_parser.specs.inner.ReadingUnits.{text}
 use Rattle.ada_parser.specs.Exactly.{IsRead}

@@ -1,5 +1,5 @@
 use Rattle.std.proofs.Common.{◌≡◌, ◌∙◌, suc, ◌+◌, map, ap, rules, arith}
-use Rattle.lawful_reader.specs.Readers.{Found, pure, go_on}
+use Rattle.ada_expr_parser.specs.readers.Readers.{Found, pure, go_on}
 use Rattle.ada_tree.specs.PlainStmt.{plain_body}
 use Rattle.ada_tree.specs.PlainDecl.{plain_decl, decls_of, DTaskBody}
 use Rattle.ada_tree.proofs.Rows.{rows}

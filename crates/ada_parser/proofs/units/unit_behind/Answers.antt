@@ -1,5 +1,5 @@
 use Rattle.std.proofs.Common.{◌≡◌, ◌+◌, ◌∙◌, suc, ap, rules, arith}
-use Rattle.lawful_reader.specs.Readers.{pure, go_on}
+use Rattle.ada_expr_parser.specs.readers.Readers.{pure, go_on}
 use Rattle.ada_expr_parser.specs.Gives.{Fails}
 use Rattle.ada_expr_parser.proofs.Steps.{fails_go_on}
 use Rattle.ada_parser.specs.inner.ReadingDeclarativeParts.{unit_end}

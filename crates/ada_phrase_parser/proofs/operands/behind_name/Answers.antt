@@ -1,5 +1,5 @@
 use Rattle.std.proofs.Common.{◌≡◌, ◌-◌, sym, ◌∙◌, ap, rules}
-use Rattle.lawful_reader.specs.Readers.{bind, token, go_on}
+use Rattle.ada_expr_parser.specs.readers.Readers.{bind, token, go_on}
 use Rattle.ada_expr_parser.specs.Tests.{word}
 use Rattle.ada_expr_parser.specs.Gives.{Fails}
 use Rattle.ada_expr_parser.specs.Parts.{expression}

@@ -1,5 +1,5 @@
 use Rattle.std.proofs.Common.{sym, ◌∙◌, rules}
-use Rattle.lawful_reader.specs.Readers.{token, items, fronted}
+use Rattle.ada_expr_parser.specs.readers.Readers.{token, items, fronted}
 use Rattle.ada_expr_parser.specs.Tests.{word}
 use Rattle.ada_phrase_parser.specs.Reading.{is_symbol, key_then}
 use Rattle.ada_expr_parser.specs.Gives.{Fails}

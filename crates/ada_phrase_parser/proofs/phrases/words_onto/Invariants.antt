@@ -1,5 +1,5 @@
 use Rattle.std.proofs.Common.{length}
-use Rattle.lawful_reader.specs.Readers.{token}
+use Rattle.ada_expr_parser.specs.readers.Readers.{token}
 use Rattle.ada_expr_parser.specs.Tests.{word}
 use Rattle.ada_phrase_parser.specs.Reading.{is_symbol, key_then}
 use Rattle.ada_phrase_parser.proofs.Lists.{GoesOn}

@@ -1,5 +1,5 @@
 use Rattle.std.proofs.Common.{◌≤◌, ◌+◌, ◌-◌, true, false, sym, ◌∙◌, ap, arith}
-use Rattle.lawful_reader.specs.Readers.{go_on}
+use Rattle.ada_expr_parser.specs.readers.Readers.{go_on}
 use Rattle.ada_tree.specs.PlainExpr.{plain_expr}
 use Rattle.ada_tree.specs.PlainStmt.{PStmt}
 use Rattle.ada_expr_parser.specs.Trees.{levels, indexed}

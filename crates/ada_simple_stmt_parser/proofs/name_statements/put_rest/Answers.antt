@@ -1,5 +1,5 @@
 use Rattle.std.proofs.Common.{sym, ap, ◌∙◌, option_map}
-use Rattle.lawful_reader.specs.Readers.{bind}
+use Rattle.ada_expr_parser.specs.readers.Readers.{bind}
 use Rattle.ada_tree.specs.PlainStmt.{plain_part}
 use Rattle.ada_phrase_parser.specs.Reading.{string, operand}
 use Rattle.ada_simple_stmt_parser.specs.inner.ReadingSimple.{put_more, put_behind}

@@ -1,5 +1,5 @@
 use Rattle.std.proofs.Common.{sym, ◌∙◌, rules, map}
-use Rattle.lawful_reader.specs.Readers.{items, fronted}
+use Rattle.ada_expr_parser.specs.readers.Readers.{items, fronted}
 use Rattle.ada_lexer.specs.declared.symbols.Symbol.TheVariants as key
 use Rattle.ada_expr_parser.specs.Parts.{target}
 use Rattle.ada_phrase_parser.specs.Reading.{is_symbol, key_then}

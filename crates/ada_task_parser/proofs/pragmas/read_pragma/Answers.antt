@@ -1,5 +1,5 @@
 use Rattle.std.proofs.Common.{◌∙◌, ap, sym, rules}
-use Rattle.lawful_reader.specs.Readers.{Found, pure, go_on}
+use Rattle.ada_expr_parser.specs.readers.Readers.{Found, pure, go_on}
 use Rattle.ada_tree.specs.PlainExpr.{plain_expr}
 use Rattle.ada_tree.specs.PlainDecl.{DPragma}
 use Rattle.ada_expr_parser.specs.Trees.{from_to}

@@ -1,5 +1,5 @@
 use Rattle.std.proofs.Common.{sym, ◌∙◌, rules, map}
-use Rattle.lawful_reader.specs.Readers.{items, fronted}
+use Rattle.ada_expr_parser.specs.readers.Readers.{items, fronted}
 use Rattle.ada_task_parser.specs.inner.ReadingTasks.{begins_member, member}
 use Rattle.ada_phrase_parser.specs.Views.{told}
 use Rattle.ada_task_parser.specs.inner.MemberViews.{plain_member}

@@ -1,7 +1,7 @@
 use Rattle.std.proofs.Common.{max, ap, ◌∙◌}
 use Rattle.ada_tree.specs.PlainDecl.{plain_decl}
 use Rattle.normal_form.proofs.Greatest.{greatest_turn}
-use Rattle.abort_model.specs.Places.{places_of}
+use Rattle.collect_model.specs.aborts.Places.{places_of}
 use Rattle.collect_abort.proofs.counting.most_among.Goals as goal
 
 pub loop-decl-preserved : goal.loop-decl-preserved

@@ -2,7 +2,7 @@ use Rattle.std.proofs.Common.{◌≡◌, map, take}
 use Rattle.std.specs.Prelude.{max}
 use Rattle.ada_tree.specs.PlainDecl.{plain_decl}
 use Rattle.normal_model.specs.NormalTree.{greatest}
-use Rattle.abort_model.specs.Places.{places_of}
+use Rattle.collect_model.specs.aborts.Places.{places_of}
 use Rattle.collect_abort.proofs.counting.most_among.Given as goal
 
 abbrev pub invariant-loop-decl : goal.invariant-loop-decl

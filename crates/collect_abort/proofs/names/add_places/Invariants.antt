@@ -1,5 +1,5 @@
 use Rattle.std.proofs.Common.{◌≡◌}
-use Rattle.abort_model.specs.Names.{with_places}
+use Rattle.collect_model.specs.aborts.Names.{with_places}
 use Rattle.collect_abort.proofs.names.add_places.Given as goal
 
 abbrev pub invariant-loop-before : goal.invariant-loop-before

@@ -1,6 +1,6 @@
 use Rattle.std.proofs.Common.{ap, ◌∙◌}
 use Rattle.ada_tree.specs.NameList.{interned}
-use Rattle.abort_model.specs.Names.{acceptors_text, each_text, with_recorded}
+use Rattle.collect_model.specs.aborts.Names.{acceptors_text, each_text, with_recorded}
 use Rattle.collect_abort.proofs.names.add_recorded.Goals as goal
 
 pub returns : goal.returns

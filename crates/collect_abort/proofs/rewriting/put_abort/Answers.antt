@@ -1,5 +1,5 @@
 use Rattle.ada_tree.specs.PlainStmt.{plain_callee, seen}
-use Rattle.abort_model.specs.AbortStmts.{abort_image}
+use Rattle.collect_model.specs.aborts.AbortStmts.{abort_image}
 use Rattle.collect_statements.proofs.Images.{row-put}
 use Rattle.collect_abort.specs.Looked.{told_of}
 use Rattle.collect_abort.specs.Rules.{abort_told}

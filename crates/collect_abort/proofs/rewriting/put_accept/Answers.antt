@@ -1,5 +1,5 @@
 use Rattle.ada_tree.specs.PlainStmt.{plain_accept, seen}
-use Rattle.abort_model.specs.Serving.{accept_image}
+use Rattle.collect_model.specs.aborts.Serving.{accept_image}
 use Rattle.collect_statements.proofs.Images.{row-put}
 use Rattle.collect_abort.specs.Looked.{told_of}
 use Rattle.collect_abort.specs.Rules.{accept_told}

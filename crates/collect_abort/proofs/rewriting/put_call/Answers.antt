@@ -1,5 +1,5 @@
 use Rattle.ada_tree.specs.PlainStmt.{plain_call, seen}
-use Rattle.abort_model.specs.Calling.{plain_image}
+use Rattle.collect_model.specs.aborts.Calling.{plain_image}
 use Rattle.collect_statements.specs.Looked.{teller_of}
 use Rattle.collect_statements.proofs.Images.{row-put}
 use Rattle.collect_abort.specs.Rules.{call_told}

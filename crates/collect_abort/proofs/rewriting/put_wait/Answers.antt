@@ -1,6 +1,6 @@
 use Rattle.std.proofs.Common.{map}
 use Rattle.ada_tree.specs.PlainStmt.{alts_of, plain_alt, seen, seen_maybe}
-use Rattle.abort_model.specs.Waiting.{wait_image}
+use Rattle.collect_model.specs.aborts.Waiting.{wait_image}
 use Rattle.collect_statements.proofs.Images.{row-put}
 use Rattle.collect_abort.specs.Looked.{told_of}
 use Rattle.collect_abort.specs.Rules.{wait_told}

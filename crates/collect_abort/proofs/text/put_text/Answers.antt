@@ -1,6 +1,6 @@
 use Rattle.std.proofs.Common.{ap, ◌∙◌, refl}
 use Rattle.normal_model.specs.Names.{id_of}
-use Rattle.abort_model.specs.Names.{acceptors_text, each_text}
+use Rattle.collect_model.specs.aborts.Names.{acceptors_text, each_text}
 use Rattle.collect_statements.specs.declared.reporter.Reporter.{Reporter}
 use Rattle.collect_abort.proofs.Made.{failed, finished}
 use Rattle.collect_abort.proofs.text.put_text.Goals as goal

@@ -3,7 +3,7 @@ use Rattle.ada_tree.specs.PlainProgram.{PProgram, plain_program}
 use Rattle.syn_event.specs.declared.numbering.Mode.TheVariants.{Original}
 use Rattle.debug_outcome.specs.Coming.{Comes, Never}
 use Rattle.debug_outcome.proofs.Comings.{comes_more}
-use Rattle.debug_replay.specs.ReplayOutcomes.{ReplaysLines}
+use Rattle.debug_collect.specs.replays.ReplayOutcomes.{ReplaysLines}
 use Rattle.debug_core.specs.LegalTexts.{IsLegalText}
 use Rattle.debug_core.specs.ReplayMeaning.{ReplayMeans}
 use Rattle.debug_core.proofs.Originals.{read_is_original, text_is_upper}

@@ -2,7 +2,7 @@ use Rattle.std.proofs.Common.{ℕ, [], inl, refl}
 use Rattle.debug_outcome.specs.Coming.{Never}
 use Rattle.debug_outcome.proofs.Comings.{comes_more}
 use Rattle.debug_outcome.specs.words.Words.{AsksLoad}
-use Rattle.debug_load.specs.LoadOutcomes.{LoadMeans}
+use Rattle.debug_collect.specs.loads.LoadOutcomes.{LoadMeans}
 use Rattle.debug_core.specs.Answers.{CallsFor}
 use Rattle.debug_core.proofs.top.carry_out.Goals as goal
 

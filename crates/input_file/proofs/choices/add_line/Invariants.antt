@@ -1,6 +1,6 @@
 use Rattle.std.proofs.Common.{◌≡◌, ◌++◌, length, option_map}
-use Rattle.text_lines.specs.Lines.{all_of, words_of}
-use Rattle.text_lines.specs.Numerals.{small_number}
+use Rattle.seq_file.specs.text_lines.Lines.{all_of, words_of}
+use Rattle.seq_file.specs.text_lines.Numerals.{small_number}
 use Rattle.input_file.proofs.choices.add_line.Given as goal
 
 -- the choices so far and those of the words that are left are those of the line

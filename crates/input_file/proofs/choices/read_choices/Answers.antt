@@ -1,5 +1,5 @@
 use Rattle.std.proofs.Common.{sym, subst, ◌∙◌, inl, inr}
-use Rattle.text_lines.proofs.Filing.{some-by}
+use Rattle.seq_file.proofs.text_lines.Filing.{some-by}
 use Rattle.input_file.specs.declared.errors.InputError.TheVariants.{BadLine}
 use Rattle.input_file.specs.ChoiceFiles.{choice_format}
 use Rattle.input_file.proofs.Reading.{ChoicesReadTo, other-header, choices-start, choices-more, choices-fault, choices-end, choices-unique, choices-no_fault, choices-one_fault, memory-cases}

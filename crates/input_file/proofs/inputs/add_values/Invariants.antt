@@ -1,6 +1,6 @@
 use Rattle.std.proofs.Common.{◌≡◌, ◌++◌, length, option_map}
-use Rattle.text_lines.specs.Lines.{all_of, words_of}
-use Rattle.text_lines.specs.Numerals.{small_integer}
+use Rattle.seq_file.specs.text_lines.Lines.{all_of, words_of}
+use Rattle.seq_file.specs.text_lines.Numerals.{small_integer}
 use Rattle.input_file.proofs.inputs.add_values.Given as goal
 
 -- the integers so far and those of the words that are left are those of all words

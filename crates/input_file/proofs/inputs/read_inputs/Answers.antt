@@ -1,5 +1,5 @@
 use Rattle.std.proofs.Common.{◌^◌, ◌<◌, sym, subst, ◌∙◌, [], inl, inr, length}
-use Rattle.text_lines.proofs.Filing.{some-by}
+use Rattle.seq_file.proofs.text_lines.Filing.{some-by}
 use Rattle.input_file.specs.declared.errors.InputError.TheVariants.{BadLine}
 use Rattle.input_file.specs.InputFiles.{input_format}
 use Rattle.input_file.specs.inner.NextLines.{IsNextInputs}

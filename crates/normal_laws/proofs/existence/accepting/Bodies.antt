@@ -29,11 +29,11 @@ use Rattle.task_model.specs.Starting.{Unit as TaskUnit, unit_of_decl, unit_among
 use Rattle.task_laws.specs.invariants.AcceptHeads as heads
 use Rattle.task_laws.specs.statements.Each.{Loops, InParts, InStmts, InMaybe, InAccept, InAltKind, InAlts, InArms, InCaseArms, InBody, InHandlers}
 use Rattle.task_laws.proofs.statements.Carried.{starts-so, stays-so}
-use Rattle.legal_programs.specs.asked.Asked.{Asks, AskedStmt, AskedStmts, AskedSome, AskedMaybe, AskedAccept, AskedAlts, AskedKind, AskedArms, AskedCaseArms, AskedBody, AskedHandlers}
-use Rattle.legal_programs.specs.asked.Kinds.{check_asks}
-use Rattle.legal_programs.specs.sites.Met.{IsCheckMet}
-use Rattle.legal_programs.proofs.asked.Checked.{checked_asked}
-use Rattle.legal_programs.proofs.sites.Meeting.{all_check_met}
+use Rattle.task_laws.specs.legal.asked.Asked.{Asks, AskedStmt, AskedStmts, AskedSome, AskedMaybe, AskedAccept, AskedAlts, AskedKind, AskedArms, AskedCaseArms, AskedBody, AskedHandlers}
+use Rattle.task_laws.specs.legal.asked.Kinds.{check_asks}
+use Rattle.task_laws.specs.legal.sites.Met.{IsCheckMet}
+use Rattle.task_laws.proofs.legal.asked.Checked.{checked_asked}
+use Rattle.task_laws.proofs.legal.sites.Meeting.{all_check_met}
 use Rattle.normal_laws.specs.runs.forms.Normalisable.{numbers_of, setting_for}
 use Rattle.normal_laws.proofs.structure.placed.Depth.{one-more}
 use Rattle.normal_laws.specs.existence.accepting.Laws.{HasFormals, HaveFormals, CanAccept, LegalBodiesCanAccept, LegalTasksCanAccept, CanAcceptStays}

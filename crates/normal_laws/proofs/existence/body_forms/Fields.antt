@@ -13,21 +13,21 @@ use Rattle.syn_event.specs.declared.numbering.Mode.TheVariants.{Original}
 use Rattle.syn_event.specs.Legal.{Legal}
 use Rattle.syn_event.specs.Numbering.{Numbering}
 use Rattle.syn_event.specs.NamedTasks.{NamedTasks, task_names_of}
-use Rattle.legal_programs.specs.rewritten_values.Values.{old_names}
+use Rattle.task_laws.specs.legal.rewritten_values.Values.{old_names}
 use Rattle.normal_laws.specs.structure.types.Own.{own_name}
 use Rattle.task_laws.specs.translation.Translations.{Programs}
 use Rattle.task_laws.specs.translation.OldTexts.{OldBody}
 use Rattle.normal_laws.specs.runs.floors.Suited.{asked_of}
 use Rattle.normal_laws.specs.runs.runs.Premises.{programs_of, unit_at, unit_before}
 use Rattle.normal_laws.specs.runs.forms.Normalisable.{numbers_of, normal_rewrite}
-use Rattle.legal_programs.specs.types.Typed.{IsSmall, HasLimits, IsTypedPart}
-use Rattle.legal_programs.proofs.types.MainScopes.{StandsWhole, main-stands}
-use Rattle.legal_programs.proofs.types.TaskTypes.{AllRanges, all-ranges}
-use Rattle.legal_programs.specs.literals.Literals.{HasIndexLiterals}
-use Rattle.legal_programs.proofs.literals.Indices.{indices-are-literals}
+use Rattle.task_laws.specs.legal.types.Typed.{IsSmall, HasLimits, IsTypedPart}
+use Rattle.task_laws.proofs.legal.types.MainScopes.{StandsWhole, main-stands}
+use Rattle.task_laws.proofs.legal.types.TaskTypes.{AllRanges, all-ranges}
+use Rattle.task_laws.specs.legal.literals.Literals.{HasIndexLiterals}
+use Rattle.task_laws.proofs.legal.literals.Indices.{indices-are-literals}
 use Rattle.normal_laws.specs.existence.variable_types.Ready.{IsReady}
 use Rattle.normal_laws.proofs.existence.variable_types.Fields.{ready-legal}
-use Rattle.legal_programs.proofs.sites.Both.{together}
+use Rattle.task_laws.proofs.legal.sites.Both.{together}
 use Rattle.normal_laws.proofs.existence.units.Fields.{legal_has_tokens}
 use Rattle.normal_laws.proofs.existence.units.Own.{program-own}
 use Rattle.normal_laws.proofs.existence.units.Apart.{all-addressed}
@@ -39,7 +39,7 @@ use Rattle.normal_laws.proofs.existence.body_forms.Ranges.{ranges-known, row-sam
 use Rattle.normal_laws.proofs.existence.body_forms.Rows.{members-short}
 use Rattle.normal_laws.proofs.existence.body_forms.Worth.{HasRangeLiterals, row-literals}
 use Rattle.normal_laws.proofs.existence.body_forms.Literals.{row-literal}
-use Rattle.legal_programs.proofs.rewritten_types.Lookups.{find-all}
+use Rattle.task_laws.proofs.legal.rewritten_types.Lookups.{find-all}
 use Rattle.std.specs.List.{AllByRecursion}
 
 module _ (p : PProgram) (types : TypeTable) (its_numbers : Numbering) (legal : Legal p types its_numbers Original) (placed : IsWellPlaced p) (names : AreNames p.names) (small : IsSmall (types_in p)) (inputs : List (List ℤ)) where

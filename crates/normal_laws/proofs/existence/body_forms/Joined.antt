@@ -21,7 +21,7 @@ use Rattle.syn_event.specs.NamedTasks.{NamedTasks, task_names_of, numbered_tasks
 use Rattle.syn_event.specs.AllNumbers.{info_of_task, all_numbers}
 use Rattle.task_model.specs.Starting.{Unit, unit_of_info, unit_among}
 use Rattle.normal_model.specs.NormalTree.{first_running}
-use Rattle.legal_programs.specs.rewritten_values.Values.{is_known}
+use Rattle.task_laws.specs.legal.rewritten_values.Values.{is_known}
 use Rattle.normal_laws.specs.structure.types.Own.{own_name}
 use Rattle.normal_laws.specs.structure.types.Laws.{IsOrdered, setting_of}
 use Rattle.normal_laws.specs.structure.units.Laws.{TellUnits}

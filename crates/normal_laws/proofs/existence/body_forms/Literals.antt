@@ -32,7 +32,7 @@ use Rattle.normal_laws.specs.runs.runs.Premises.{programs_of}
 use Rattle.normal_laws.specs.runs.forms.Normalisable.{made_for, normal_rewrite}
 use Rattle.normal_laws.proofs.existence.variable_types.SubtypeForms.{begins, predefined-mark, predefined-own}
 use Rattle.normal_laws.proofs.existence.seen_tasks.Parts.{IsExtent}
-use Rattle.legal_programs.specs.types.Typed.{HasLimits, HasPosition}
+use Rattle.task_laws.specs.legal.types.Typed.{HasLimits, HasPosition}
 use Rattle.normal_laws.proofs.existence.body_forms.Ranges.{some-bounds}
 use Rattle.normal_laws.proofs.existence.body_forms.Worth.{HasRangeLiterals}
 

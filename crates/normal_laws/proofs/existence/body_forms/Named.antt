@@ -23,8 +23,8 @@ use Rattle.normal_model.specs.NormalTree.{normal_tree}
 use Rattle.normal_laws.specs.structure.types.Laws.{IsOrdered, setting_of}
 use Rattle.normal_laws.specs.structure.units.Laws.{TellUnits, numbers_made}
 use Rattle.normal_laws.proofs.structure.units.Tasks.{tasks_keep_numbers}
-use Rattle.legal_programs.proofs.rewritten_types.Lookups.{place-all}
-use Rattle.legal_programs.proofs.sites.Meeting.{all_check_met}
+use Rattle.task_laws.proofs.legal.rewritten_types.Lookups.{place-all}
+use Rattle.task_laws.proofs.legal.sites.Meeting.{all_check_met}
 use Rattle.normal_laws.proofs.structure.entries.Lists.{found-place}
 use Rattle.normal_laws.proofs.structure.entries.Entries.{IsTaskOf, mapped-at}
 use Rattle.normal_laws.proofs.existence.units.DeclaredNames.{IsGood, tasks-good}

@@ -18,11 +18,11 @@ use Rattle.syn_event.specs.AllNumbers.{all_numbers}
 use Rattle.ada_value.specs.Values.{lies_in}
 use Rattle.normal_model.specs.Ranges.{subtype_of_range, array_range}
 use Rattle.normal_model.specs.NormalTree.{normal_tree}
-use Rattle.legal_programs.specs.rewritten_values.Values.{old_names}
+use Rattle.task_laws.specs.legal.rewritten_values.Values.{old_names}
 use Rattle.normal_laws.specs.structure.types.Own.{own_name}
 use Rattle.normal_laws.specs.runs.floors.Suited.{declared_limits, limits_of_form}
-use Rattle.legal_programs.specs.types.Typed.{HasLimits}
-use Rattle.legal_programs.proofs.types.TaskTypes.{IsRangeHere, AllRanges}
+use Rattle.task_laws.specs.legal.types.Typed.{HasLimits}
+use Rattle.task_laws.proofs.legal.types.TaskTypes.{IsRangeHere, AllRanges}
 use Rattle.normal_laws.specs.existence.variable_types.Ready.{IsReady}
 use Rattle.normal_laws.proofs.existence.variable_types.SubtypeForms.{range-form}
 use Rattle.normal_laws.proofs.existence.variable_types.Subtypes.{array-own}

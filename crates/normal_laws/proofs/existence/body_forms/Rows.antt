@@ -10,7 +10,7 @@ use Rattle.syn_event.specs.declared.numbering.TaskInfo.{TaskInfo}
 use Rattle.syn_event.specs.Extents.{count_to}
 use Rattle.syn_event.specs.NamedTasks.{NamedTasks, NumberedTask, numbered_task, numbers_on, indices, tasks_of_range, tasks_of_name}
 use Rattle.syn_event.specs.AllNumbers.{info_of_task}
-use Rattle.legal_programs.specs.types.Typed.{HasLimits, IsTypedPart}
+use Rattle.task_laws.specs.legal.types.Typed.{HasLimits, IsTypedPart}
 use Rattle.normal_laws.proofs.existence.units.TaskNames.{IsShort}
 use Rattle.common_lemmas.proofs.Lists.{all_joined}
 

@@ -18,13 +18,13 @@ use Rattle.syn_event.specs.declared.numbering.Mode.TheVariants.{Original}
 use Rattle.syn_event.specs.CheckScope.{CheckSite}
 use Rattle.task_model.specs.Setting.{Setting}
 use Rattle.ada_value.specs.StaticLaw.{HasSmallLiterals}
-use Rattle.legal_programs.specs.sites.Met.{IsMet, IsCheckMet}
-use Rattle.legal_programs.proofs.sites.Meeting.{all_met}
-use Rattle.legal_programs.specs.types.Typed.{IsSmall}
-use Rattle.legal_programs.proofs.types.MainScopes.{StandsWhole, bodies-stand, last-stands}
-use Rattle.legal_programs.proofs.types.InnerScopes.{IsApartName, IsApartLocal, AreApart, inside-stands, accept-stands}
-use Rattle.legal_programs.proofs.types.LoopScopes.{loop-stands}
-use Rattle.legal_programs.proofs.types.BodyScopes.{BodiesStand, bodies-all, no-unclear, mark-known, expr-worth}
+use Rattle.task_laws.specs.legal.sites.Met.{IsMet, IsCheckMet}
+use Rattle.task_laws.proofs.legal.sites.Meeting.{all_met}
+use Rattle.task_laws.specs.legal.types.Typed.{IsSmall}
+use Rattle.task_laws.proofs.legal.types.MainScopes.{StandsWhole, bodies-stand, last-stands}
+use Rattle.task_laws.proofs.legal.types.InnerScopes.{IsApartName, IsApartLocal, AreApart, inside-stands, accept-stands}
+use Rattle.task_laws.proofs.legal.types.LoopScopes.{loop-stands}
+use Rattle.task_laws.proofs.legal.types.BodyScopes.{BodiesStand, bodies-all, no-unclear, mark-known, expr-worth}
 use Rattle.normal_laws.proofs.existence.units.Apart.{all-apart}
 use Rattle.normal_laws.proofs.existence.seen_tasks.Units.{BodiesTyped}
 use Rattle.normal_laws.proofs.existence.statement_forms.Typed.{HasWorth, Typing}

@@ -12,17 +12,17 @@ use Rattle.ada_static_rules.specs.Scope.{kind_at}
 use Rattle.ada_static_rules.specs.StaticValue.{value_named}
 use Rattle.ada_value.specs.Values.{position_of, lies_in}
 use Rattle.ada_value.specs.Evaluating.{fixed_value}
-use Rattle.legal_programs.specs.rewritten_types.Laws.{behind}
-use Rattle.legal_programs.proofs.rewritten_values.Saying.{fixed-alike}
+use Rattle.task_laws.specs.legal.rewritten_types.Laws.{behind}
+use Rattle.task_laws.proofs.legal.rewritten_values.Saying.{fixed-alike}
 use Rattle.normal_laws.specs.structure.types.Own.{own_name}
 use Rattle.normal_laws.proofs.structure.types.Normal.{normal_agrees}
 use Rattle.normal_laws.specs.runs.forms.Normalisable.{numbers_of, made_for}
-use Rattle.legal_programs.specs.types.Typed.{IsSmall, HasLimits}
-use Rattle.legal_programs.proofs.types.TypedValues.{anybody}
-use Rattle.legal_programs.proofs.types.StaticWorth.{named-alike, keeps-agrees}
-use Rattle.legal_programs.proofs.types.MainScopes.{StandsWhole, last-stands}
-use Rattle.legal_programs.proofs.types.LaterScopes.{valued-means}
-use Rattle.legal_programs.specs.literals.Literals.{StandsFor, HasIndexLiterals}
+use Rattle.task_laws.specs.legal.types.Typed.{IsSmall, HasLimits}
+use Rattle.task_laws.proofs.legal.types.TypedValues.{anybody}
+use Rattle.task_laws.proofs.legal.types.StaticWorth.{named-alike, keeps-agrees}
+use Rattle.task_laws.proofs.legal.types.MainScopes.{StandsWhole, last-stands}
+use Rattle.task_laws.proofs.legal.types.LaterScopes.{valued-means}
+use Rattle.task_laws.specs.legal.literals.Literals.{StandsFor, HasIndexLiterals}
 use Rattle.normal_laws.specs.existence.variable_types.Ready.{IsReady}
 use Rattle.normal_laws.proofs.existence.variable_types.SubtypeForms.{meant-own}
 

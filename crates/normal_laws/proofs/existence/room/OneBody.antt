@@ -14,7 +14,7 @@ use Rattle.ada_static_rules.specs.RuleDuplicate.{is_among}
 use Rattle.ada_static_rules.specs.Sites.{decl_sites, decls_sites}
 use Rattle.syn_event.specs.DeclaredTasks.{decl_list}
 use Rattle.syn_event.proofs.Nothing.{test_fails}
-use Rattle.legal_programs.specs.sites.Met.{IsMet}
+use Rattle.task_laws.specs.legal.sites.Met.{IsMet}
 use Rattle.task_model.specs.Starting.{unit_among}
 use Rattle.common_lemmas.proofs.Lists.{all_back, all_front}
 use Rattle.common_lemmas.proofs.Truth.{or_both}

@@ -18,9 +18,9 @@ use Rattle.syn_event.specs.CheckScope.{CheckScope}
 use Rattle.syn_event.specs.CheckScope as check
 use Rattle.syn_event.specs.CheckSites as sites
 use Rattle.syn_event.specs.NamedTasks.{NamedTasks, task_names_in, task_names_of}
-use Rattle.legal_programs.specs.rewritten_types.Rewriting.{IsUnused, DeclareOnce}
-use Rattle.legal_programs.proofs.rewritten_types.Lookups.{find-all}
-use Rattle.legal_programs.proofs.rewritten_types.Fresh.{first-here}
+use Rattle.task_laws.specs.legal.rewritten_types.Rewriting.{IsUnused, DeclareOnce}
+use Rattle.task_laws.proofs.legal.rewritten_types.Lookups.{find-all}
+use Rattle.task_laws.proofs.legal.rewritten_types.Fresh.{first-here}
 use Rattle.normal_laws.proofs.existence.seen_tasks.Scopes.{is_one_of, names-all, meant-out, meant-own, IsNoTask, inner-object, formal-no-task, loop-no-task}
 use Rattle.normal_laws.proofs.existence.seen_tasks.Parts.{ObjectsApart, AreRanged, unit_is, IsUnitOf, Stands, IsTaskArray, Means, IsPair, MainSeen, types_after, decl-step, extended, no-task-means, no-task-pair, name-used}
 use Rattle.common_lemmas.proofs.Lists.{find_front, not_empty}

@@ -25,9 +25,9 @@ use Rattle.syn_event.specs.Extents.{extent}
 use Rattle.syn_event.specs.DeclaredTasks.{tasks_of, tasks_in, decl_list}
 use Rattle.syn_event.specs.NamedTasks.{NamedTasks, named_tasks, type_named, task_names_of_type, object_task_names, with_type, single_task_name, task_names_in, task_names_of}
 use Rattle.task_model.specs.Setting.{unit_named}
-use Rattle.legal_programs.specs.rewritten_types.Rewriting.{names_declared, IsUsed, IsUnused}
-use Rattle.legal_programs.proofs.rewritten_types.Lookups.{find-all}
-use Rattle.legal_programs.proofs.rewritten_types.Fresh.{InHere, here-decl, other, used-more}
+use Rattle.task_laws.specs.legal.rewritten_types.Rewriting.{names_declared, IsUsed, IsUnused}
+use Rattle.task_laws.proofs.legal.rewritten_types.Lookups.{find-all}
+use Rattle.task_laws.proofs.legal.rewritten_types.Fresh.{InHere, here-decl, other, used-more}
 use Rattle.normal_laws.proofs.structure.entries.Lists.{find-behind, find-mapped}
 use Rattle.normal_laws.proofs.existence.seen_tasks.Scopes.{has_id, is_one_of, names-all, meant-out, meant-in, meant-own, IsNoTask, ObjectThing, no_task_object, one_object, array_of_objects, object-thing, task-type-seen}
 use Rattle.common_lemmas.proofs.Lists.{all_joined, all_weaker, find_front, found_none}

@@ -18,8 +18,8 @@ use Rattle.ada_static_rules.specs.Declaring.{declared_object, inner_scope, in_bo
 use Rattle.syn_event.specs.CheckScope.{CheckScope, CheckSite}
 use Rattle.syn_event.specs.CheckSites as sites
 use Rattle.task_model.specs.Starting.{unit_among}
-use Rattle.legal_programs.specs.rewritten_types.Rewriting.{DeclareOnce}
-use Rattle.legal_programs.specs.sites.Met.{IsMet}
+use Rattle.task_laws.specs.legal.rewritten_types.Rewriting.{DeclareOnce}
+use Rattle.task_laws.specs.legal.sites.Met.{IsMet}
 use Rattle.normal_laws.proofs.existence.seen_tasks.Finding.{no-place}
 use Rattle.normal_laws.proofs.existence.seen_tasks.Scopes.{is_one_of}
 use Rattle.normal_laws.proofs.existence.seen_tasks.Parts.{AllApart, NamesApart, ObjectsApart, AreRanged, MainSeen, types_after, decl-step}

@@ -21,7 +21,7 @@ use Rattle.normal_model.specs.Making.{moving}
 use Rattle.ada_value.specs.StaticLaw.{HasSmallLiterals}
 use Rattle.task_laws.specs.translation.Translations.{Programs}
 use Rattle.normal_laws.specs.runs.floors.Suited.{IsHead}
-use Rattle.legal_programs.specs.sites.Met.{IsMet, IsCheckMet}
+use Rattle.task_laws.specs.legal.sites.Met.{IsMet, IsCheckMet}
 use Rattle.normal_laws.proofs.structure.entries.Entries.{entry_in, numbers, g, IsTaskOf, HasEntry, entry-there}
 use Rattle.normal_laws.proofs.existence.seen_tasks.Parts.{FamilyRanged}
 use Rattle.normal_laws.proofs.existence.seen_tasks.Bodies.{PlaceSeen}

@@ -29,7 +29,7 @@ use Rattle.ada_value.specs.Evaluating.{evaluated}
 use Rattle.ada_value.specs.declared.values.Value.{Value}
 use Rattle.ada_value.specs.declared.values.Raised.{Raised}
 use Rattle.task_model.specs.Setting.{member_named, task_meant, callee_task}
-use Rattle.legal_programs.specs.sites.Met.{IsMet, IsCheckMet}
+use Rattle.task_laws.specs.legal.sites.Met.{IsMet, IsCheckMet}
 use Rattle.normal_laws.proofs.structure.entries.Entries.{numbers, g, IsTaskOf}
 use Rattle.normal_laws.proofs.existence.seen_tasks.Parts.{IsExtent, Stands, IsTaskArray}
 use Rattle.normal_laws.proofs.existence.seen_tasks.Bodies.{PlaceSeen}

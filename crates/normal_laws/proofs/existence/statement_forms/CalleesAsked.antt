@@ -30,7 +30,7 @@ use Rattle.normal_model.specs.Making.{moving}
 use Rattle.ada_value.specs.StaticLaw.{HasSmallLiterals}
 use Rattle.task_laws.specs.translation.Translations.{Programs}
 use Rattle.normal_laws.specs.runs.floors.Suited.{declared_limits, IsMeant, is_named, is_member as member_meant, IsLiteral, HasLiteral, IsCallee}
-use Rattle.legal_programs.specs.sites.Met.{IsMet}
+use Rattle.task_laws.specs.legal.sites.Met.{IsMet}
 use Rattle.normal_laws.proofs.structure.entries.Lists.{found-place}
 use Rattle.normal_laws.proofs.existence.seen_tasks.Finding.{no-place, all-filtered}
 use Rattle.normal_laws.proofs.structure.entries.Entries.{numbers, g, IsTaskOf}

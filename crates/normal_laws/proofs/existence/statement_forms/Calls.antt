@@ -26,7 +26,7 @@ use Rattle.task_laws.specs.translation.Translations.{Programs, IsOld}
 use Rattle.task_laws.specs.translation.OldNames.{OldExpr, old_name}
 use Rattle.task_laws.specs.translation.OldTexts.{OldExprs, old_expr, OldList, old_list, OldArgs, old_args, OldCall}
 use Rattle.normal_laws.specs.runs.floors.Suited.{IsMeant, is_named, is_member, IsCallee, HasLists, no_lists, plain_lists, family_lists, IsCopied, only_taken, given_back, both_ways, AreCopied, none_copied, copied_then, IsCall}
-use Rattle.legal_programs.specs.sites.Met.{IsMet}
+use Rattle.task_laws.specs.legal.sites.Met.{IsMet}
 use Rattle.normal_laws.proofs.existence.seen_tasks.Finding.{no-place}
 use Rattle.normal_laws.proofs.structure.entries.Entries.{entry_in, numbers, g, HasEntry, entry-there}
 use Rattle.normal_laws.proofs.existence.seen_tasks.Parts.{FamilyRanged}

@@ -17,7 +17,7 @@ use Rattle.syn_event.specs.NamedTasks.{NamedTasks, task_names_of, NumberedTask, 
 use Rattle.syn_event.specs.AllNumbers.{info_of_task}
 use Rattle.ada_value.specs.declared.values.Raised.TheVariants as raised
 use Rattle.task_model.specs.Setting.{is_member, member_named}
-use Rattle.legal_programs.proofs.rewritten_types.Lookups.{find-more}
+use Rattle.task_laws.proofs.legal.rewritten_types.Lookups.{find-more}
 use Rattle.normal_laws.proofs.structure.entries.Lists.{find-behind, find-mapped, found-place}
 use Rattle.normal_laws.proofs.existence.seen_tasks.Finding.{no-place-passes}
 use Rattle.normal_laws.proofs.structure.entries.Entries.{numbers}

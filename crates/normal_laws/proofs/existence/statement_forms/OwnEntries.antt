@@ -27,8 +27,8 @@ use Rattle.ada_value.specs.Values.{lies_in, position_of, and_then}
 use Rattle.ada_value.specs.Evaluating.{evaluated}
 use Rattle.ada_value.specs.StaticLaw.{HasSmallLiterals}
 use Rattle.task_model.specs.Setting.{index_in}
-use Rattle.legal_programs.proofs.rewritten_types.Lookups.{find-all}
-use Rattle.legal_programs.specs.sites.Met.{IsMet}
+use Rattle.task_laws.proofs.legal.rewritten_types.Lookups.{find-all}
+use Rattle.task_laws.specs.legal.sites.Met.{IsMet}
 use Rattle.normal_laws.proofs.structure.entries.Lists.{find-mapped}
 use Rattle.normal_laws.proofs.existence.seen_tasks.Finding.{no-place}
 use Rattle.normal_laws.proofs.structure.entries.Entries.{entry_in}

@@ -31,17 +31,17 @@ use Rattle.syn_event.specs.AllNumbers.{info_of_task}
 use Rattle.task_model.specs.Setting.{Setting}
 use Rattle.task_model.specs.Starting.{unit_among}
 use Rattle.normal_model.specs.NormalTree.{first_running}
-use Rattle.legal_programs.proofs.rewritten_types.Lookups.{find-all, place-all}
-use Rattle.legal_programs.proofs.rewritten_types.Refused.{declared_once}
-use Rattle.legal_programs.specs.rewritten_values.Values.{is_known}
+use Rattle.task_laws.proofs.legal.rewritten_types.Lookups.{find-all, place-all}
+use Rattle.task_laws.proofs.legal.rewritten_types.Refused.{declared_once}
+use Rattle.task_laws.specs.legal.rewritten_values.Values.{is_known}
 use Rattle.ada_value.specs.StaticLaw.{HasSmallLiterals}
 use Rattle.ada_tree.specs.Lexical.{IsInteger}
 use Rattle.ada_tree.specs.PlainExpr.{PExpr, EInteger, EName, EIndex, EAttribute, EAttributeOf, EParen, EUnary, EBinary}
 use Rattle.task_laws.specs.translation.Translations.{Programs}
 use Rattle.task_laws.specs.translation.OldTexts.{Asked, OldCall, OldBody, old_body, old_no_stmt, old_no_handler}
 use Rattle.normal_laws.specs.runs.floors.Suited.{IsCallee, IsCall, IsHead, HasAlternative, has_alternative}
-use Rattle.legal_programs.specs.sites.Met.{IsMet, IsCheckMet}
-use Rattle.legal_programs.proofs.sites.Meeting.{all_met, all_check_met}
+use Rattle.task_laws.specs.legal.sites.Met.{IsMet, IsCheckMet}
+use Rattle.task_laws.proofs.legal.sites.Meeting.{all_met, all_check_met}
 use Rattle.normal_laws.specs.existence.inner.Gives.{Known, Gives}
 use Rattle.normal_laws.proofs.existence.walked_statements.Walk.{body-as-asked}
 use Rattle.normal_laws.proofs.structure.entries.Lists.{found-place}

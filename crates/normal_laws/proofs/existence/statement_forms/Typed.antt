@@ -14,8 +14,8 @@ use Rattle.ada_value.specs.declared.values.Value.{Value}
 use Rattle.ada_value.specs.Values.{limits_named, position_of}
 use Rattle.ada_value.specs.Evaluating.{evaluated}
 use Rattle.ada_value.specs.StaticLaw.{HasSmallLiterals}
-use Rattle.legal_programs.specs.rewritten_values.Values.{is_known}
-use Rattle.legal_programs.specs.sites.Met.{IsMet}
+use Rattle.task_laws.specs.legal.rewritten_values.Values.{is_known}
+use Rattle.task_laws.specs.legal.sites.Met.{IsMet}
 
 -- a static expression has one value, as the rules and as a task see it
 pub record IsWorth (T : TypeTable) (s : Scope) (k : ℕ) (e : PExpr) : Type 0 where

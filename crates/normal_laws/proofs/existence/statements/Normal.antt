@@ -6,9 +6,9 @@ use Rattle.syn_event.specs.CheckScope.{CheckScope, CheckSite}
 use Rattle.syn_event.specs.CheckSites as check
 use Rattle.task_laws.specs.statements.Each.{Loops, InBody}
 use Rattle.task_laws.proofs.statements.Carried.{starts-so, stays-so}
-use Rattle.legal_programs.specs.asked.Asked.{Asks, AskedStmt, AskedBody}
-use Rattle.legal_programs.specs.asked.Kinds.{no_asks, check_asks}
-use Rattle.legal_programs.proofs.asked.Checked.{checked_asked}
+use Rattle.task_laws.specs.legal.asked.Asked.{Asks, AskedStmt, AskedBody}
+use Rattle.task_laws.specs.legal.asked.Kinds.{no_asks, check_asks}
+use Rattle.task_laws.proofs.legal.asked.Checked.{checked_asked}
 use Rattle.normal_model.specs.RewrittenUnit.{RewrittenUnit}
 use Rattle.normal_model.specs.NormalStmts.{normal_body, unit_variables}
 use Rattle.normal_model.proofs.VariablesLemmas.{begins-refl}

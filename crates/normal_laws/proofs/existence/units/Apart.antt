@@ -7,11 +7,11 @@ use Rattle.ada_static_rules.specs.Refusals.{MeetsTypeRules, types_in}
 use Rattle.ada_static_rules.specs.Demand.{Demand, declares, Site}
 use Rattle.ada_static_rules.specs.Sites.{decls_sites, body_sites, sites}
 use Rattle.ada_static_rules.specs.Declaring.{first_scope, inner_scope, after_decls}
-use Rattle.legal_programs.specs.types.Typed.{IsSmall}
-use Rattle.legal_programs.proofs.types.ApartNames.{marks-lack}
-use Rattle.legal_programs.proofs.types.InnerScopes.{IsApartLocal, AreApart}
-use Rattle.legal_programs.proofs.types.AllAddressed.{callees-told}
-use Rattle.legal_programs.specs.sites.Met.{IsAddressed}
+use Rattle.task_laws.specs.legal.types.Typed.{IsSmall}
+use Rattle.task_laws.proofs.legal.types.ApartNames.{marks-lack}
+use Rattle.task_laws.proofs.legal.types.InnerScopes.{IsApartLocal, AreApart}
+use Rattle.task_laws.proofs.legal.types.AllAddressed.{callees-told}
+use Rattle.task_laws.specs.legal.sites.Met.{IsAddressed}
 use Rattle.normal_laws.specs.existence.units.Laws.{IsFreeLocal}
 use Rattle.normal_laws.proofs.existence.units.Fixing.{IsApart, locals-apart}
 use Rattle.normal_laws.proofs.existence.units.Lacking.{locals-free}

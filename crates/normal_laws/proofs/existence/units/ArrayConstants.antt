@@ -21,15 +21,15 @@ use Rattle.ada_static_rules.specs.RuleDuplicate.{is_predefined, is_among, fixes,
 use Rattle.ada_static_rules.specs.Declaring.{before_all, first_scope, inner_scope, with_types, subind_made, made_subind, drange_range, made_array, object_meaning, Declared, plain_object, array_object, declared_object, of_made, add_constants, constant_mark, constant_value, kind_at_mark, initial_value, with_constants, after_decl, after_decls}
 use Rattle.ada_value.specs.declared.values.Form.{Form}
 use Rattle.task_model.specs.Starting.{form_of}
-use Rattle.legal_programs.proofs.rewritten_types.Adding.{names-types}
-use Rattle.legal_programs.specs.sites.Met.{IsMet}
-use Rattle.legal_programs.proofs.sites.Meeting.{all_met}
+use Rattle.task_laws.proofs.legal.rewritten_types.Adding.{names-types}
+use Rattle.task_laws.specs.legal.sites.Met.{IsMet}
+use Rattle.task_laws.proofs.legal.sites.Meeting.{all_met}
 use Rattle.normal_laws.proofs.existence.units.Fixing.{Differs, AllDiffer, all-before, later}
-use Rattle.legal_programs.specs.rewritten_values.Values.{AgreeOnValues}
+use Rattle.task_laws.specs.legal.rewritten_values.Values.{AgreeOnValues}
 use Rattle.normal_laws.proofs.existence.units.Plain.{ArrayFree, ArraysFree}
 use Rattle.normal_laws.proofs.existence.units.Lacking.{Lacks, no-task, no-row, declared-lacks, decl-lacks, decl-main, decls-lack, first-lacks, lacks-value}
 use Rattle.common_lemmas.proofs.Lists.{all_back, all_front, all_weaker, back_empty, front_empty, last_at, not_empty}
-use Rattle.legal_programs.proofs.rewritten_types.Refused.{no_duplicate, no_word}
+use Rattle.task_laws.proofs.legal.rewritten_types.Refused.{no_duplicate, no_word}
 
 -- ---- an array constant adds no constant
 

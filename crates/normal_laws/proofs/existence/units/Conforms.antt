@@ -35,17 +35,17 @@ use Rattle.task_model.specs.Starting.{unit_among, unit_of_info, unit_of}
 use Rattle.task_laws.specs.invariants.AcceptHeads.{InBody}
 use Rattle.task_laws.specs.invariants.Worlds.{Conforms}
 use Rattle.task_laws.specs.translation.OldTexts.{Asked, OldBody}
-use Rattle.legal_programs.specs.rewritten_types.Rewriting.{IsUsed, IsUnused, names_declared, DeclareOnce}
-use Rattle.legal_programs.proofs.rewritten_types.Lookups.{find-only, place-all}
-use Rattle.legal_programs.proofs.rewritten_types.Refused.{declared_once}
+use Rattle.task_laws.specs.legal.rewritten_types.Rewriting.{IsUsed, IsUnused, names_declared, DeclareOnce}
+use Rattle.task_laws.proofs.legal.rewritten_types.Lookups.{find-only, place-all}
+use Rattle.task_laws.proofs.legal.rewritten_types.Refused.{declared_once}
 use Rattle.normal_laws.proofs.structure.units.Declared.{parts-all, numbered-tasks-all}
 use Rattle.normal_laws.specs.existence.accepting.Laws.{HasFormals}
 use Rattle.normal_laws.specs.existence.inner.Gives.{Known, Gives}
 use Rattle.normal_laws.proofs.existence.walked_statements.Walk.{body-as-asked}
 use Rattle.normal_laws.proofs.structure.entries.Entries.{IsTaskOf, mapped-at, entry-there}
-use Rattle.legal_programs.specs.sites.Met.{IsMet, IsCheckMet}
-use Rattle.legal_programs.proofs.sites.Meeting.{all_met, all_check_met}
-use Rattle.legal_programs.proofs.sites.Around.{test-fails}
+use Rattle.task_laws.specs.legal.sites.Met.{IsMet, IsCheckMet}
+use Rattle.task_laws.proofs.legal.sites.Meeting.{all_met, all_check_met}
+use Rattle.task_laws.proofs.legal.sites.Around.{test-fails}
 use Rattle.normal_laws.proofs.existence.units.AcceptHeads.{in-body}
 use Rattle.normal_laws.proofs.existence.units.Alike.{formals-same, alike-same}
 use Rattle.normal_laws.proofs.existence.units.Seen.{is_task, IsSeen, AreSeen, tasks_of_decl, decl-seen, first-seen, others-before}

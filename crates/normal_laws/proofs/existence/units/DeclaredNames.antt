@@ -23,11 +23,11 @@ use Rattle.syn_event.specs.CheckScope.{CheckScope, CheckSite, declares}
 use Rattle.syn_event.specs.CheckSites.{site, if_there, names_sites, shape_sites, init_sites, decl_sites, decls_sites, body_sites, after_decl, after_decls, around_program, body_names, counted_sites}
 use Rattle.syn_event.specs.CheckRefusals.{MeetsCheckRules}
 use Rattle.syn_event.specs.RuleReservedName.{is_reserved}
-use Rattle.legal_programs.specs.rewritten_types.Rewriting.{names_declared}
+use Rattle.task_laws.specs.legal.rewritten_types.Rewriting.{names_declared}
 use Rattle.normal_laws.proofs.structure.types.Variables.{all-mapped}
-use Rattle.legal_programs.specs.sites.Met.{IsCheckMet}
-use Rattle.legal_programs.proofs.sites.Meeting.{all_check_met}
-use Rattle.legal_programs.proofs.sites.Around.{test-fails}
+use Rattle.task_laws.specs.legal.sites.Met.{IsCheckMet}
+use Rattle.task_laws.proofs.legal.sites.Meeting.{all_check_met}
+use Rattle.task_laws.proofs.legal.sites.Around.{test-fails}
 use Rattle.common_lemmas.proofs.Lists.{all_back, all_front, all_joined}
 
 -- a name that the source can hold and that is left to no rewriter

@@ -17,19 +17,19 @@ use Rattle.syn_event.proofs.Weaker.{placed_tokens}
 use Rattle.ada_value.specs.Variables.{Object, Variables}
 use Rattle.task_model.specs.Starting.{unit_of_info, objects_of}
 use Rattle.task_laws.specs.invariants.Worlds.{IsWellMade}
-use Rattle.legal_programs.specs.rewritten_types.Rewriting.{staying}
-use Rattle.legal_programs.proofs.rewritten_types.Refused.{declared_once}
-use Rattle.legal_programs.proofs.rewritten_types.Staying.{staying_is_front}
-use Rattle.legal_programs.specs.rewritten_values.Values.{AgreeOnValues}
-use Rattle.legal_programs.proofs.rewritten_values.Staying.{objects_stay}
+use Rattle.task_laws.specs.legal.rewritten_types.Rewriting.{staying}
+use Rattle.task_laws.proofs.legal.rewritten_types.Refused.{declared_once}
+use Rattle.task_laws.proofs.legal.rewritten_types.Staying.{staying_is_front}
+use Rattle.task_laws.specs.legal.rewritten_values.Values.{AgreeOnValues}
+use Rattle.task_laws.proofs.legal.rewritten_values.Staying.{objects_stay}
 use Rattle.normal_laws.specs.structure.types.Own.{own_name}
 use Rattle.normal_laws.specs.structure.types.Laws.{AreOwn}
 use Rattle.normal_laws.proofs.structure.types.Normal.{normal_values}
 use Rattle.normal_laws.specs.runs.runs.Premises.{programs_of, objects_before}
 use Rattle.normal_laws.specs.runs.forms.Normalisable.{numbers_of, setting_for, made_for, normal_rewrite, IsPlain}
-use Rattle.legal_programs.specs.types.Typed.{IsSmall}
-use Rattle.legal_programs.proofs.types.MainScopes.{main-stands}
-use Rattle.legal_programs.proofs.types.TaskTypes.{tasks-have-types}
+use Rattle.task_laws.specs.legal.types.Typed.{IsSmall}
+use Rattle.task_laws.proofs.legal.types.MainScopes.{main-stands}
+use Rattle.task_laws.proofs.legal.types.TaskTypes.{tasks-have-types}
 use Rattle.normal_laws.specs.existence.units.Laws.{LegalIsOrdered, LegalHasTokens, LegalNamesTell, LegalConforms, LegalTypesAreFull, IsFreeLocal, LocalsAreFree, LegalIsOwn, LegalIsPlain, LegalIsWell, LightHasFew, FewNamesSmall}
 use Rattle.normal_laws.proofs.existence.units.Apart.{all-addressed}
 use Rattle.normal_laws.proofs.existence.units.Own.{program-own}

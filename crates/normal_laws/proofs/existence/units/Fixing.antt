@@ -9,7 +9,7 @@ use Rattle.ada_static_rules.specs.Sites.{site, sites}
 use Rattle.ada_static_rules.specs.RuleDuplicate.{is_predefined, is_among, fixes, introduces, duplicate}
 use Rattle.ada_static_rules.specs.Refusals.{MeetsTypeRules, refused_at, refused_from}
 use Rattle.common_lemmas.proofs.Lists.{all_weaker, back_empty, front_empty}
-use Rattle.legal_programs.proofs.rewritten_types.Refused.{no_duplicate, no_word}
+use Rattle.task_laws.proofs.legal.rewritten_types.Refused.{no_duplicate, no_word}
 
 -- the place does not declare this name for all of main
 abbrev pub Differs : ℕ → Demand → Type 0

@@ -20,11 +20,11 @@ use Rattle.ada_static_rules.specs.ExprTypes.{expr_place, ok_value, is_kind, kind
 use Rattle.ada_static_rules.specs.RuleRangeBad.{is_below, empty_range}
 use Rattle.ada_static_rules.specs.StaticValue.{is_static, value_of}
 use Rattle.ada_static_rules.specs.Declaring.{first_scope, inner_scope, with_types, with_names, made_range, subind_made, made_subind, given_range, marked_range, drange_range, made_array, renamed, plain_object, array_object, declared_object, add_constants, with_constants, constant_mark, constant_value, in_body, after_own_object, after_objects, after_decl, after_decls}
-use Rattle.legal_programs.proofs.rewritten_types.Lookups.{place-all}
-use Rattle.legal_programs.proofs.rewritten_types.Adding.{names-types}
-use Rattle.legal_programs.specs.sites.Met.{IsMet}
-use Rattle.legal_programs.proofs.sites.Meeting.{all_met}
-use Rattle.legal_programs.proofs.sites.Around.{test-fails}
+use Rattle.task_laws.proofs.legal.rewritten_types.Lookups.{place-all}
+use Rattle.task_laws.proofs.legal.rewritten_types.Adding.{names-types}
+use Rattle.task_laws.specs.legal.sites.Met.{IsMet}
+use Rattle.task_laws.proofs.legal.sites.Meeting.{all_met}
+use Rattle.task_laws.proofs.legal.sites.Around.{test-fails}
 use Rattle.common_lemmas.proofs.Lists.{all_back, all_front, all_joined}
 
 -- a type or subtype has a value

@@ -23,7 +23,7 @@ use Rattle.ada_value.specs.declared.values.Limits.{Limits}
 use Rattle.ada_value.specs.Values.{and_then, position_of, kind_of_value, is_true_value, value_at, based, fitted, lies_in, lower_bound, limits_named}
 use Rattle.ada_value.specs.Evaluating.{bound_value, attribute_value, signed_value, unless_zero, combined, operated, evaluated}
 use Rattle.task_model.specs.Starting.{value_or_lower, initial, value_count, initials}
-use Rattle.legal_programs.specs.rewritten_values.Values.{is_known, old_names, AgreeOnValues}
+use Rattle.task_laws.specs.legal.rewritten_values.Values.{is_known, old_names, AgreeOnValues}
 
 module _ (old : ℕ → Bool) (T U : TypeTable) (before after : List (List ℕ)) (agree : AgreeOnValues old T U before after) where
   abbrev Known : Value → Type 0

@@ -22,7 +22,7 @@ use Rattle.ada_static_rules.specs.Sites.{names_sites, decl_sites, decls_sites, i
 use Rattle.ada_static_rules.specs.ExprTypes.{static_in, static_range}
 use Rattle.ada_static_rules.specs.RuleDuplicate.{is_predefined}
 use Rattle.ada_static_rules.specs.Declaring.{first_scope, inner_scope, with_name, with_names, with_types, add_mark, add_kind, made, made_range, subind_made, made_subind, drange_range, made_array, renamed, object_meaning, task_object, task_array, plain_object, array_object, declared_object, constants_for, add_constants, constant_mark, constant_value, with_constants, in_body, after_own_object, after_objects, after_decl, after_decls}
-use Rattle.legal_programs.proofs.rewritten_types.Adding.{names-types}
+use Rattle.task_laws.proofs.legal.rewritten_types.Adding.{names-types}
 use Rattle.normal_laws.specs.existence.units.Laws.{IsFreeLocal}
 use Rattle.normal_laws.proofs.existence.units.Fixing.{AllDiffer, IsApart, locals-apart}
 use Rattle.common_lemmas.proofs.Lists.{all_back, all_front, all_joined, all_weaker, found_none}

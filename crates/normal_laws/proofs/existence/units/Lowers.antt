@@ -20,7 +20,7 @@ use Rattle.ada_value.specs.Values.{position_of, value_at, lies_in, lower_bound, 
 use Rattle.task_model.specs.declared.parameters.FormalParameter.{FormalParameter}
 use Rattle.task_model.specs.Setting.{Setting, parameters_of, unit_named, formals_of_entry, formals_in, formals_of_unit, formals_of_info, entry_parameters}
 use Rattle.task_laws.specs.invariants.Holding.{Fits, LowersFit}
-use Rattle.legal_programs.proofs.rewritten_types.Lookups.{find-all}
+use Rattle.task_laws.proofs.legal.rewritten_types.Lookups.{find-all}
 use Rattle.normal_laws.proofs.existence.units.Full.{IsFullMark, IsFull, types-full}
 use Rattle.common_lemmas.proofs.Truth.{both_true}
 

@@ -20,13 +20,13 @@ use Rattle.syn_event.specs.AddedNames.{is_added_name}
 use Rattle.syn_event.specs.DeclaredTasks.{text_of}
 use Rattle.syn_event.specs.RuleReservedName.{has_mark, is_reserved}
 use Rattle.syn_event.proofs.Weaker.{placed_tokens}
-use Rattle.legal_programs.proofs.rewritten_types.Lookups.{place-all}
-use Rattle.legal_programs.specs.rewritten_values.Values.{old_names}
-use Rattle.legal_programs.proofs.rewritten_values.Saying.{place-within}
+use Rattle.task_laws.proofs.legal.rewritten_types.Lookups.{place-all}
+use Rattle.task_laws.specs.legal.rewritten_values.Values.{old_names}
+use Rattle.task_laws.proofs.legal.rewritten_values.Saying.{place-within}
 use Rattle.normal_laws.specs.structure.types.Own.{own_name}
-use Rattle.legal_programs.specs.sites.Met.{IsAddressed}
-use Rattle.legal_programs.proofs.sites.Both.{together}
-use Rattle.legal_programs.proofs.sites.NamedDecls.{all_are_named}
+use Rattle.task_laws.specs.legal.sites.Met.{IsAddressed}
+use Rattle.task_laws.proofs.legal.sites.Both.{together}
+use Rattle.task_laws.proofs.legal.sites.NamedDecls.{all_are_named}
 
 -- the text does not begin with DED_
 abbrev IsPlain : List ℕ → Type 0

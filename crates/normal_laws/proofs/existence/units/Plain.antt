@@ -18,8 +18,8 @@ use Rattle.ada_value.specs.declared.values.Form.{Form}
 use Rattle.ada_value.specs.Values.{kind_of_value}
 use Rattle.ada_value.specs.Variables.{Object, Variables, value_there}
 use Rattle.task_model.specs.Starting.{form_of, object_of, with_objects, declared_objects, after_declaration, objects_of, unit_among}
-use Rattle.legal_programs.specs.rewritten_types.Rewriting.{mark_of, if_stays, is_no_task, staying}
-use Rattle.legal_programs.specs.rewritten_values.Values.{is_known, old_names, AgreeOnValues}
+use Rattle.task_laws.specs.legal.rewritten_types.Rewriting.{mark_of, if_stays, is_no_task, staying}
+use Rattle.task_laws.specs.legal.rewritten_values.Values.{is_known, old_names, AgreeOnValues}
 use Rattle.normal_laws.proofs.existence.units.KnownValues.{InitOld, initials-known, there-known}
 use Rattle.normal_laws.specs.existence.units.Laws.{IsFreeLocal}
 use Rattle.normal_laws.proofs.existence.units.Lacking.{own-main}

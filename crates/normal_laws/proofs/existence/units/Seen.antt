@@ -15,9 +15,9 @@ use Rattle.syn_event.specs.declared.meanings.Meant.{Meant}
 use Rattle.syn_event.specs.declared.meanings.Meant.TheVariants as meant
 use Rattle.syn_event.specs.CheckScope.{EnclosingUnit as CheckUnit, CheckScope, meaning as check_meaning}
 use Rattle.syn_event.specs.CheckSites.{with_object, with_declared_object, after_decl as check_after_decl, after_object as check_after_object, enclosing_unit}
-use Rattle.legal_programs.specs.rewritten_types.Rewriting.{IsUsed, IsUnused, names_declared}
-use Rattle.legal_programs.proofs.rewritten_types.Lookups.{find-only}
-use Rattle.legal_programs.proofs.rewritten_types.Fresh.{other, used-more}
+use Rattle.task_laws.specs.legal.rewritten_types.Rewriting.{IsUsed, IsUnused, names_declared}
+use Rattle.task_laws.proofs.legal.rewritten_types.Lookups.{find-only}
+use Rattle.task_laws.proofs.legal.rewritten_types.Fresh.{other, used-more}
 use Rattle.common_lemmas.proofs.Lists.{all_joined, all_weaker, find_front, found_none}
 use Rattle.common_lemmas.proofs.Options.{some_same}
 use Rattle.syn_event.proofs.CheckScopes.{meant_units}

@@ -25,18 +25,18 @@ use Rattle.ada_static_rules.specs.ExprTypes.{static_in, static_range}
 use Rattle.ada_static_rules.specs.RuleDuplicate.{is_predefined, is_among}
 use Rattle.ada_static_rules.specs.Declaring.{predefined_types, first_scope, inner_scope, with_types, with_name, with_names, add_kind, made, made_range, subind_made, made_subind, drange_range, made_array, renamed, declared_object, plain_object, array_object, add_constants, with_constants, constant_mark, constant_value, after_decl, after_decls}
 use Rattle.ada_value.specs.Values.{word}
-use Rattle.legal_programs.specs.rewritten_types.Agreement.{scalar_only, Keeps}
-use Rattle.legal_programs.proofs.rewritten_types.Lookups.{earlier-or-last}
-use Rattle.legal_programs.proofs.rewritten_types.Adding.{names-types, keeps-decl}
-use Rattle.legal_programs.proofs.rewritten_types.Owning.{nobody, all-new}
-use Rattle.legal_programs.specs.types.Typed.{IsSmallKind, IsSmall}
-use Rattle.legal_programs.proofs.types.FirmTables.{scalar-kind}
-use Rattle.legal_programs.specs.sites.Met.{IsMet}
-use Rattle.legal_programs.proofs.sites.Meeting.{all_met}
+use Rattle.task_laws.specs.legal.rewritten_types.Agreement.{scalar_only, Keeps}
+use Rattle.task_laws.proofs.legal.rewritten_types.Lookups.{earlier-or-last}
+use Rattle.task_laws.proofs.legal.rewritten_types.Adding.{names-types, keeps-decl}
+use Rattle.task_laws.proofs.legal.rewritten_types.Owning.{nobody, all-new}
+use Rattle.task_laws.specs.legal.types.Typed.{IsSmallKind, IsSmall}
+use Rattle.task_laws.proofs.legal.types.FirmTables.{scalar-kind}
+use Rattle.task_laws.specs.legal.sites.Met.{IsMet}
+use Rattle.task_laws.proofs.legal.sites.Meeting.{all_met}
 use Rattle.common_lemmas.proofs.Lists.{all_back, all_front, last_at}
 use Rattle.common_lemmas.proofs.Options.{some_same}
-use Rattle.legal_programs.proofs.types.GoodDeclarations.{length-mapped}
-use Rattle.legal_programs.proofs.rewritten_types.Refused.{no_word}
+use Rattle.task_laws.proofs.legal.types.GoodDeclarations.{length-mapped}
+use Rattle.task_laws.proofs.legal.rewritten_types.Refused.{no_word}
 
 -- ---- numbers below a bound that differ
 

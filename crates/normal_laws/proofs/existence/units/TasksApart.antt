@@ -20,7 +20,7 @@ use Rattle.task_model.specs.Setting.{Setting}
 use Rattle.normal_model.specs.Names.{name_of_member, texts_of_member, member_texts, with_members, member_name, task_name}
 use Rattle.normal_model.specs.NormalTree.{tasks_beside}
 use Rattle.normal_model.proofs.VariablesLemmas.{Begins}
-use Rattle.legal_programs.proofs.rewritten_values.Saying.{place-within}
+use Rattle.task_laws.proofs.legal.rewritten_values.Saying.{place-within}
 use Rattle.normal_laws.specs.structure.types.Laws.{IsOrdered, setting_of}
 use Rattle.normal_laws.proofs.structure.types.Names.{fold-begins, interned-has, text-place}
 use Rattle.normal_laws.proofs.structure.units.Pairs.{names_tell_units}

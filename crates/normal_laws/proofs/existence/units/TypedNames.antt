@@ -17,11 +17,11 @@ use Rattle.ada_value.specs.declared.values.Limits.{Limits}
 use Rattle.ada_value.specs.Variables.{form_of_kind, form_of_mark}
 use Rattle.syn_event.specs.DeclaredTasks.{tasks_of}
 use Rattle.task_model.specs.Starting.{marked_form, plain_form, form_of}
-use Rattle.legal_programs.specs.rewritten_types.Agreement.{scalar_only as scalar_kind_only}
-use Rattle.legal_programs.specs.types.Typed.{IsScalarName, HasTypedTasks}
-use Rattle.legal_programs.proofs.types.ExprKinds.{scalar-mark}
-use Rattle.legal_programs.proofs.types.MainScopes.{Stands, AllStand}
-use Rattle.legal_programs.proofs.types.TaskTypes.{name-here}
+use Rattle.task_laws.specs.legal.rewritten_types.Agreement.{scalar_only as scalar_kind_only}
+use Rattle.task_laws.specs.legal.types.Typed.{IsScalarName, HasTypedTasks}
+use Rattle.task_laws.proofs.legal.types.ExprKinds.{scalar-mark}
+use Rattle.task_laws.proofs.legal.types.MainScopes.{Stands, AllStand}
+use Rattle.task_laws.proofs.legal.types.TaskTypes.{name-here}
 use Rattle.normal_laws.proofs.existence.units.Lowers.{AreWorth}
 use Rattle.normal_laws.proofs.existence.units.ArrayConstants.{AreScalarStill}
 use Rattle.common_lemmas.proofs.Lists.{all_weaker}

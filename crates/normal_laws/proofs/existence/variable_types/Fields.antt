@@ -17,13 +17,13 @@ use Rattle.ada_value.specs.Values.{lies_in, integer_limits, truth_limits, limits
 use Rattle.task_model.specs.Setting.{is_family, is_family_in, family_limits, formals_of_info}
 use Rattle.task_model.specs.Starting.{unit_of}
 use Rattle.normal_model.specs.Ranges.{marked, integer_subtype, truth_subtype, subtype_of_range, range_subtype, family_range, range_of_info}
-use Rattle.legal_programs.specs.rewritten_values.Values.{old_names}
+use Rattle.task_laws.specs.legal.rewritten_values.Values.{old_names}
 use Rattle.normal_laws.specs.structure.types.Own.{own_name}
 use Rattle.normal_laws.specs.runs.floors.Suited.{SameRange, limits_of_form, declared_limits, AreMarked, none_marked, marked_then}
 use Rattle.normal_laws.specs.runs.runs.Premises.{programs_of}
 use Rattle.normal_laws.specs.runs.forms.Normalisable.{numbers_of, setting_for, made_for, first_task, variables_of, normal_rewrite, IsScalar}
-use Rattle.legal_programs.specs.types.Typed.{HasLimits}
-use Rattle.legal_programs.proofs.types.TaskTypes.{tasks-have-types}
+use Rattle.task_laws.specs.legal.types.Typed.{HasLimits}
+use Rattle.task_laws.proofs.legal.types.TaskTypes.{tasks-have-types}
 use Rattle.normal_laws.specs.existence.variable_types.Ready.{IsReady}
 use Rattle.normal_laws.specs.existence.variable_types.Laws.{LegalIsReady, MarksAgree, FamiliesAgree}
 use Rattle.normal_laws.proofs.existence.variable_types.Numbers.{IsEntryOf, range-is}

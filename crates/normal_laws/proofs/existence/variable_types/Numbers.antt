@@ -18,8 +18,8 @@ use Rattle.syn_event.specs.DeclaredTasks.{tasks_of}
 use Rattle.task_model.specs.Setting.{Setting, unit_named, formals_of_entry, formals_in, formals_of_unit, formals_of_info}
 use Rattle.normal_model.specs.Ranges.{range_of_entry, range_in, range_of_unit, range_of_info}
 use Rattle.normal_laws.specs.structure.types.Laws.{setting_of}
-use Rattle.legal_programs.specs.types.Typed.{IsFirstEntry, IsFirstTask}
-use Rattle.legal_programs.proofs.rewritten_types.Lookups.{place-all}
+use Rattle.task_laws.specs.legal.types.Typed.{IsFirstEntry, IsFirstTask}
+use Rattle.task_laws.proofs.legal.rewritten_types.Lookups.{place-all}
 use Rattle.common_lemmas.proofs.Lists.{all_joined, append_last, seam_there}
 
 -- what is asked of each entry with its task

@@ -25,22 +25,22 @@ use Rattle.ada_value.specs.Values.{limits_named, limits_or, integer_limits, trut
 use Rattle.task_model.specs.Starting.{known_range, form_of}
 use Rattle.normal_model.specs.Ranges.{word_at, marked, integer_subtype, truth_subtype, kind_of_range, kind_name, range_subtype}
 use Rattle.normal_model.specs.NormalTree.{normal_tree}
-use Rattle.legal_programs.specs.rewritten_types.Agreement.{scalar_only, IsScalar, Grows}
-use Rattle.legal_programs.specs.rewritten_types.Laws.{behind}
-use Rattle.legal_programs.specs.rewritten_types.Rewriting.{valued}
-use Rattle.legal_programs.proofs.rewritten_types.Lookups.{find-grown, place-all}
-use Rattle.legal_programs.proofs.rewritten_types.Refused.{declared_once}
-use Rattle.legal_programs.proofs.rewritten_types.Fresh.{InHere, first-here, here-decl, meaning-used}
-use Rattle.legal_programs.proofs.rewritten_types.Unmarked.{unvalued_has_no_mark}
-use Rattle.legal_programs.proofs.rewritten_types.NamedKinds.{kinds_are_named}
-use Rattle.legal_programs.specs.rewritten_values.Values.{is_known, old_names}
-use Rattle.legal_programs.proofs.rewritten_values.Objects.{form-alike, marked_has_form}
+use Rattle.task_laws.specs.legal.rewritten_types.Agreement.{scalar_only, IsScalar, Grows}
+use Rattle.task_laws.specs.legal.rewritten_types.Laws.{behind}
+use Rattle.task_laws.specs.legal.rewritten_types.Rewriting.{valued}
+use Rattle.task_laws.proofs.legal.rewritten_types.Lookups.{find-grown, place-all}
+use Rattle.task_laws.proofs.legal.rewritten_types.Refused.{declared_once}
+use Rattle.task_laws.proofs.legal.rewritten_types.Fresh.{InHere, first-here, here-decl, meaning-used}
+use Rattle.task_laws.proofs.legal.rewritten_types.Unmarked.{unvalued_has_no_mark}
+use Rattle.task_laws.proofs.legal.rewritten_types.NamedKinds.{kinds_are_named}
+use Rattle.task_laws.specs.legal.rewritten_values.Values.{is_known, old_names}
+use Rattle.task_laws.proofs.legal.rewritten_values.Objects.{form-alike, marked_has_form}
 use Rattle.normal_laws.specs.structure.types.Own.{own_name}
 use Rattle.normal_laws.specs.structure.types.Laws.{IsOrdered, HasType}
 use Rattle.normal_laws.proofs.structure.types.Normal.{normal_agrees}
 use Rattle.normal_laws.proofs.structure.types.RangeForms.{range_forms}
-use Rattle.legal_programs.specs.types.Typed.{HasLimits, HasTypeName, IsScalarName}
-use Rattle.legal_programs.proofs.types.MainScopes.{grows-decls}
+use Rattle.task_laws.specs.legal.types.Typed.{HasLimits, HasTypeName, IsScalarName}
+use Rattle.task_laws.proofs.legal.types.MainScopes.{grows-decls}
 use Rattle.common_lemmas.proofs.Lists.{element_at}
 use Rattle.common_lemmas.proofs.Numbers.{lt_is, lt_true}
 

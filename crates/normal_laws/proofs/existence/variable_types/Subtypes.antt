@@ -31,13 +31,13 @@ use Rattle.normal_model.specs.Aborts.{abort_subtypes}
 use Rattle.normal_model.specs.Variables.{variables_declared, more_variables, statement_variables}
 use Rattle.normal_model.specs.NormalStmts.{normal_rewriter, unit_variables}
 use Rattle.normal_model.specs.NormalTree.{normal_tree}
-use Rattle.legal_programs.proofs.rewritten_types.Lookups.{find-all}
-use Rattle.legal_programs.specs.rewritten_values.Values.{old_names}
+use Rattle.task_laws.proofs.legal.rewritten_types.Lookups.{find-all}
+use Rattle.task_laws.specs.legal.rewritten_values.Values.{old_names}
 use Rattle.normal_laws.specs.structure.types.Own.{own_name}
 use Rattle.normal_laws.specs.structure.types.Laws.{setting_of}
 use Rattle.normal_laws.proofs.structure.types.Walking.{body-keeps}
-use Rattle.legal_programs.specs.types.Typed.{HasLimits, IsFirstTask, IsScalarName, IsTypedEntry, IsTypedPart, IsTypedTask}
-use Rattle.legal_programs.proofs.types.TaskTypes.{part-units}
+use Rattle.task_laws.specs.legal.types.Typed.{HasLimits, IsFirstTask, IsScalarName, IsTypedEntry, IsTypedPart, IsTypedTask}
+use Rattle.task_laws.proofs.legal.types.TaskTypes.{part-units}
 use Rattle.normal_laws.specs.existence.variable_types.Ready.{IsReady}
 use Rattle.normal_laws.proofs.existence.variable_types.Numbers.{EntryRule, IsRuled, IsEntryOf, entry-of, formals-are, range-is}
 use Rattle.normal_laws.proofs.existence.variable_types.SubtypeForms.{HasForm, truth-form, integer-form, mark-form, range-form}

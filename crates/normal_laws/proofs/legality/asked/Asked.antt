@@ -21,15 +21,15 @@ use Rattle.syn_event.specs.CheckScope.{CheckScope, CheckSite, accepts}
 use Rattle.syn_event.specs.CheckSites as check
 use Rattle.syn_event.specs.RuleAcceptPlace.{is_own_entry, is_among, accept_place}
 use Rattle.task_model.specs.Setting.{Setting}
-use Rattle.legal_programs.specs.sites.Met.{IsMet, IsCheckMet}
-use Rattle.legal_programs.specs.types.Typed.{IsSmall}
-use Rattle.legal_programs.proofs.types.MainScopes.{StandsWhole}
-use Rattle.legal_programs.specs.asked.Asked.{Asks, AskedBody}
-use Rattle.legal_programs.specs.asked.Kinds.{place_asks, type_asks, check_asks, both}
-use Rattle.legal_programs.proofs.asked.Placed.{placed_asked}
-use Rattle.legal_programs.proofs.asked.Typed.{typed_asked}
-use Rattle.legal_programs.proofs.asked.Checked.{checked_asked}
-use Rattle.legal_programs.proofs.asked.Together.{both_asked}
+use Rattle.task_laws.specs.legal.sites.Met.{IsMet, IsCheckMet}
+use Rattle.task_laws.specs.legal.types.Typed.{IsSmall}
+use Rattle.task_laws.proofs.legal.types.MainScopes.{StandsWhole}
+use Rattle.task_laws.specs.legal.asked.Asked.{Asks, AskedBody}
+use Rattle.task_laws.specs.legal.asked.Kinds.{place_asks, type_asks, check_asks, both}
+use Rattle.task_laws.proofs.legal.asked.Placed.{placed_asked}
+use Rattle.task_laws.proofs.legal.asked.Typed.{typed_asked}
+use Rattle.task_laws.proofs.legal.asked.Checked.{checked_asked}
+use Rattle.task_laws.proofs.legal.asked.Together.{both_asked}
 use Rattle.task_laws.specs.translation.Translations.{Programs}
 use Rattle.normal_laws.specs.runs.runs.Premises.{programs_of}
 use Rattle.normal_laws.specs.runs.forms.Normalisable.{setting_for, normal_rewrite}

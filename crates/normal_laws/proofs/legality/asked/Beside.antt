@@ -4,7 +4,7 @@ use Rattle.std.specs.List.{AllByRecursion}
 use Rattle.ada_tree.specs.PlainStmt.{PCallee, PBody}
 use Rattle.ada_static_rules.specs.Scope.{Scope, EntryPart}
 use Rattle.task_model.specs.Setting.{Setting}
-use Rattle.legal_programs.specs.asked.Asked.{Asks, AskedBody}
+use Rattle.task_laws.specs.legal.asked.Asked.{Asks, AskedBody}
 use Rattle.normal_laws.specs.structure.checked.Around.{AreBeside, callee_asks}
 use Rattle.normal_laws.specs.structure.typed.ScopeOf.{AreTasksOf}
 use Rattle.normal_laws.proofs.legality.asked.Steps.{Steps, steps_asked}

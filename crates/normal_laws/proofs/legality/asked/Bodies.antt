@@ -22,18 +22,18 @@ use Rattle.syn_event.specs.Numbering.{Numbering}
 use Rattle.syn_event.specs.CheckScope.{CheckScope, CheckSite}
 use Rattle.syn_event.specs.CheckSites as check
 use Rattle.task_model.specs.Setting.{Setting}
-use Rattle.legal_programs.specs.sites.Met.{IsMet}
-use Rattle.legal_programs.specs.types.Typed.{IsSmall}
-use Rattle.legal_programs.proofs.types.MainScopes.{StandsWhole}
-use Rattle.legal_programs.specs.asked.Asked.{Asks, AskedBody}
-use Rattle.legal_programs.specs.asked.Kinds.{place_asks, type_asks, both}
-use Rattle.legal_programs.specs.rewritten_types.Rewriting.{DeclareOnce}
-use Rattle.legal_programs.proofs.rewritten_types.Refused.{declared_once}
+use Rattle.task_laws.specs.legal.sites.Met.{IsMet}
+use Rattle.task_laws.specs.legal.types.Typed.{IsSmall}
+use Rattle.task_laws.proofs.legal.types.MainScopes.{StandsWhole}
+use Rattle.task_laws.specs.legal.asked.Asked.{Asks, AskedBody}
+use Rattle.task_laws.specs.legal.asked.Kinds.{place_asks, type_asks, both}
+use Rattle.task_laws.specs.legal.rewritten_types.Rewriting.{DeclareOnce}
+use Rattle.task_laws.proofs.legal.rewritten_types.Refused.{declared_once}
 use Rattle.normal_laws.specs.structure.types.Own.{own_name}
 use Rattle.task_laws.specs.translation.Translations.{Programs}
 use Rattle.normal_laws.specs.runs.runs.Premises.{programs_of}
 use Rattle.normal_laws.specs.runs.forms.Normalisable.{setting_for, normal_rewrite}
-use Rattle.legal_programs.proofs.sites.Meeting.{all_met, all_check_met}
+use Rattle.task_laws.proofs.legal.sites.Meeting.{all_met, all_check_met}
 use Rattle.normal_laws.proofs.existence.seen_tasks.Parts.{AreRanged, MainSeen, ObjectsApart, types_after, decl-step}
 use Rattle.normal_laws.proofs.existence.seen_tasks.Bodies.{first-seen, decls-step, main-seen, TaskSeen, task-seen}
 use Rattle.normal_laws.proofs.existence.seen_tasks.Units.{BodiesTyped, objects-apart}

@@ -24,14 +24,14 @@ use Rattle.syn_event.specs.NamedTasks.{NamedTasks, NumberedTask, numbered_task, 
 use Rattle.syn_event.specs.AllNumbers.{info_of_task}
 use Rattle.ada_decl_rules.specs.declared.duplicates.namings_in_order.Naming.{Naming}
 use Rattle.ada_decl_rules.specs.duplicates.NamingsInOrder.{naming_in, and_then, namings_of}
-use Rattle.legal_programs.specs.sites.Met.{IsMet, IsAddressed}
-use Rattle.legal_programs.specs.types.Typed.{IsSmall}
-use Rattle.legal_programs.proofs.types.InnerScopes.{IsApartLocal, AreApart}
+use Rattle.task_laws.specs.legal.sites.Met.{IsMet, IsAddressed}
+use Rattle.task_laws.specs.legal.types.Typed.{IsSmall}
+use Rattle.task_laws.proofs.legal.types.InnerScopes.{IsApartLocal, AreApart}
 use Rattle.normal_laws.specs.structure.once.Apart.{AreApart as AreApartNames, fixed_name, fixed_names, loose_names}
 use Rattle.normal_laws.proofs.structure.once.Rules.{program-fit}
 use Rattle.normal_laws.proofs.structure.once.Fits.{task_names_are_fixed}
 use Rattle.normal_laws.proofs.existence.units.Apart.{all-apart, all-addressed}
-use Rattle.legal_programs.proofs.sites.Meeting.{all_met}
+use Rattle.task_laws.proofs.legal.sites.Meeting.{all_met}
 use Rattle.normal_model.specs.NormalTree.{tasks_beside}
 use Rattle.normal_laws.specs.structure.asked.Pieces.{IsAmong, first_among, later_among}
 use Rattle.normal_laws.specs.runs.forms.Normalisable.{setting_for}

@@ -12,13 +12,13 @@ use Rattle.ada_tree.specs.WellPlaced.{IsWellPlaced}
 use Rattle.ada_static_rules.specs.Scope.{kind_at, and_then}
 use Rattle.ada_value.specs.Values.{limits_named, limits_or}
 use Rattle.normal_model.specs.Ranges.{kind_name}
-use Rattle.legal_programs.specs.rewritten_types.Agreement.{scalar_only, IsScalar}
-use Rattle.legal_programs.proofs.rewritten_types.Refused.{declared_once}
-use Rattle.legal_programs.proofs.rewritten_types.NamedKinds.{kinds_are_named}
-use Rattle.legal_programs.specs.types.Typed.{IsSmall}
+use Rattle.task_laws.specs.legal.rewritten_types.Agreement.{scalar_only, IsScalar}
+use Rattle.task_laws.proofs.legal.rewritten_types.Refused.{declared_once}
+use Rattle.task_laws.proofs.legal.rewritten_types.NamedKinds.{kinds_are_named}
+use Rattle.task_laws.specs.legal.types.Typed.{IsSmall}
 use Rattle.ada_static_rules.specs.Declaring.{first_scope, after_decls}
-use Rattle.legal_programs.proofs.types.TypedValues.{IsTyped}
-use Rattle.legal_programs.proofs.types.MainScopes.{StandsWhole, last-stands}
+use Rattle.task_laws.proofs.legal.types.TypedValues.{IsTyped}
+use Rattle.task_laws.proofs.legal.types.MainScopes.{StandsWhole, last-stands}
 use Rattle.normal_laws.proofs.existence.variable_types.SubtypeForms.{predefined-mark}
 use Rattle.normal_laws.specs.structure.typed.ScopeOf.{HasKnownKinds}
 

@@ -36,15 +36,15 @@ use Rattle.normal_model.specs.Names.{name_of_task, task_name_at}
 use Rattle.normal_model.specs.Members.{known_task, members_of}
 use Rattle.normal_model.specs.NormalTree.{tasks_beside}
 use Rattle.normal_laws.specs.structure.asked.Pieces.{IsAmong, first_among, later_among, IsTarget, is_known as known_target, is_member as member_target}
-use Rattle.legal_programs.specs.rewritten_values.Values.{is_known}
+use Rattle.task_laws.specs.legal.rewritten_values.Values.{is_known}
 use Rattle.task_laws.specs.translation.Translations.{Programs}
 use Rattle.normal_laws.specs.runs.floors.Suited.{IsCallee}
 use Rattle.normal_laws.specs.runs.runs.Premises.{programs_of}
 use Rattle.normal_laws.specs.runs.forms.Normalisable.{setting_for, normal_rewrite}
-use Rattle.legal_programs.specs.sites.Met.{IsMet, IsCheckMet}
-use Rattle.legal_programs.specs.types.Typed.{IsSmall}
-use Rattle.legal_programs.proofs.types.MainScopes.{StandsWhole}
-use Rattle.legal_programs.proofs.types.StaticWorth.{small-literals}
+use Rattle.task_laws.specs.legal.sites.Met.{IsMet, IsCheckMet}
+use Rattle.task_laws.specs.legal.types.Typed.{IsSmall}
+use Rattle.task_laws.proofs.legal.types.MainScopes.{StandsWhole}
+use Rattle.task_laws.proofs.legal.types.StaticWorth.{small-literals}
 use Rattle.normal_laws.proofs.structure.entries.Entries.{mapped-at, task-there}
 use Rattle.normal_laws.proofs.existence.seen_tasks.Bodies.{PlaceSeen}
 use Rattle.normal_laws.proofs.existence.seen_tasks.Tasks.{PartsKnown, IsNumberedTask, part-apart, IsFirst, member-there}

@@ -19,9 +19,9 @@ use Rattle.syn_event.specs.CheckSites as check
 use Rattle.syn_event.specs.CheckSites.{with_meant, with_declared_object}
 use Rattle.syn_event.specs.Extents.{is_array_kind, is_array_mark, is_array_type}
 use Rattle.syn_event.specs.NamedTasks.{type_named, with_type}
-use Rattle.legal_programs.specs.rewritten_types.Agreement.{Agrees}
-use Rattle.legal_programs.specs.rewritten_types.Rewriting.{IsUsed, IsUnused}
-use Rattle.legal_programs.specs.rewritten_values.Values.{old_names}
+use Rattle.task_laws.specs.legal.rewritten_types.Agreement.{Agrees}
+use Rattle.task_laws.specs.legal.rewritten_types.Rewriting.{IsUsed, IsUnused}
+use Rattle.task_laws.specs.legal.rewritten_values.Values.{old_names}
 use Rattle.normal_model.specs.NormalTree.{mark_of}
 use Rattle.normal_laws.proofs.structure.once.TaskTypes.{HasTypes, types-after}
 use Rattle.normal_laws.proofs.existence.seen_tasks.Scopes.{is_one_of, meant-out, meant-in}

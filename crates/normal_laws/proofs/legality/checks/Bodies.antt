@@ -21,14 +21,14 @@ use Rattle.syn_event.specs.CheckScope.{CheckScope, CheckSite, meaning}
 use Rattle.syn_event.specs.CheckSites as check
 use Rattle.syn_event.specs.NamedTasks.{type_named, with_type}
 use Rattle.syn_event.specs.DeclaredTasks.{decl_list}
-use Rattle.legal_programs.specs.rewritten_types.Agreement.{Agrees}
-use Rattle.legal_programs.specs.rewritten_types.Rewriting.{DeclareOnce}
-use Rattle.legal_programs.specs.rewritten_values.Values.{old_names, AgreeOnValues}
+use Rattle.task_laws.specs.legal.rewritten_types.Agreement.{Agrees}
+use Rattle.task_laws.specs.legal.rewritten_types.Rewriting.{DeclareOnce}
+use Rattle.task_laws.specs.legal.rewritten_values.Values.{old_names, AgreeOnValues}
 use Rattle.normal_model.specs.NormalTree.{mark_of, unless_left, first_decls}
-use Rattle.legal_programs.specs.sites.Met.{IsMet, IsCheckMet}
-use Rattle.legal_programs.proofs.types.MainScopes.{AllStand}
-use Rattle.legal_programs.proofs.types.InnerScopes.{AreApart}
-use Rattle.legal_programs.proofs.types.GoodDeclarations.{after-main}
+use Rattle.task_laws.specs.legal.sites.Met.{IsMet, IsCheckMet}
+use Rattle.task_laws.proofs.legal.types.MainScopes.{AllStand}
+use Rattle.task_laws.proofs.legal.types.InnerScopes.{AreApart}
+use Rattle.task_laws.proofs.legal.types.GoodDeclarations.{after-main}
 use Rattle.normal_laws.proofs.existence.units.Plain.{ArraysFree}
 use Rattle.normal_laws.proofs.existence.seen_tasks.Parts.{ObjectsApart, AreRanged, MainSeen, decl-step}
 use Rattle.normal_laws.proofs.existence.seen_tasks.Bodies.{TaskSeen, task-seen}

@@ -23,16 +23,16 @@ use Rattle.normal_model.specs.NormalStmts.{normal_body, unit_variables}
 use Rattle.normal_model.specs.NormalTree.{decls_front, tasks_beside, unit_for, running, body_copy, bodies_of}
 use Rattle.normal_model.proofs.VariablesLemmas.{begins-refl}
 use Rattle.normal_laws.specs.runs.forms.Normalisable.{numbers_of, setting_for, made_for}
-use Rattle.legal_programs.specs.rewritten_values.Values.{old_names}
-use Rattle.legal_programs.specs.sites.Met.{IsCheckMet}
+use Rattle.task_laws.specs.legal.rewritten_values.Values.{old_names}
+use Rattle.task_laws.specs.legal.sites.Met.{IsCheckMet}
 use Rattle.normal_laws.proofs.legality.asked.Bodies.{BodiesAsked, main-asked, bodies-asked}
 use Rattle.normal_laws.proofs.legality.asked.Beside.{callees-beside}
 use Rattle.normal_laws.specs.existence.Laws.{IsLegalOriginal}
-use Rattle.legal_programs.specs.asked.Asked.{AskedBody}
-use Rattle.legal_programs.specs.asked.Kinds.{place_asks, check_asks, both}
-use Rattle.legal_programs.proofs.asked.Placed.{placed_asked}
-use Rattle.legal_programs.proofs.asked.Checked.{checked_asked, asked_checked}
-use Rattle.legal_programs.proofs.asked.Together.{both_asked}
+use Rattle.task_laws.specs.legal.asked.Asked.{AskedBody}
+use Rattle.task_laws.specs.legal.asked.Kinds.{place_asks, check_asks, both}
+use Rattle.task_laws.proofs.legal.asked.Placed.{placed_asked}
+use Rattle.task_laws.proofs.legal.asked.Checked.{checked_asked, asked_checked}
+use Rattle.task_laws.proofs.legal.asked.Together.{both_asked}
 use Rattle.normal_laws.specs.structure.asked.Pieces.{IsAmong, first_among, later_among}
 use Rattle.normal_laws.proofs.structure.asked.Walk.{body-keeps}
 use Rattle.normal_laws.proofs.structure.placed.Added.{unit-from}

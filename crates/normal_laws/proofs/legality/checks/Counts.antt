@@ -16,10 +16,10 @@ use Rattle.syn_event.specs.Extents.{extent}
 use Rattle.syn_event.specs.NamedTasks.{NamedTasks, type_named, task_names_of_type, object_task_names, with_type, single_task_name, task_names_in, task_names_of, count_of_range, task_count, NumberedTask, numbered_task, numbers_on, indices, tasks_of_range, tasks_of_name, numbered_tasks}
 use Rattle.syn_event.specs.AllNumbers.{all_numbers}
 use Rattle.syn_event.specs.DeclaredTasks.{decl_list}
-use Rattle.legal_programs.specs.sites.Met.{IsCheckMet}
+use Rattle.task_laws.specs.legal.sites.Met.{IsCheckMet}
 use Rattle.task_model.specs.Setting.{Setting}
 use Rattle.normal_model.specs.NormalTree.{normal_tree}
-use Rattle.legal_programs.proofs.rewritten_types.Lookups.{find-all}
+use Rattle.task_laws.proofs.legal.rewritten_types.Lookups.{find-all}
 use Rattle.normal_laws.specs.structure.types.Laws.{IsOrdered, setting_of}
 use Rattle.normal_laws.specs.structure.numbers.Single.{IsSingle}
 use Rattle.normal_laws.proofs.structure.numbers.TasksNumbered.{single_task, single-numbered-tasks}

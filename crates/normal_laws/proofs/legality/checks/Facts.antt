@@ -22,9 +22,9 @@ use Rattle.syn_event.specs.RuleReservedName.{is_reserved}
 use Rattle.syn_event.specs.DeclaredTasks.{text_of, decl_list, tasks_of}
 use Rattle.syn_event.proofs.Nothing.{test_fails}
 use Rattle.syn_event.proofs.Weaker.{placed_tokens}
-use Rattle.legal_programs.specs.rewritten_types.Agreement.{Agrees}
-use Rattle.legal_programs.proofs.rewritten_types.Refused.{declared_once}
-use Rattle.legal_programs.specs.rewritten_values.Values.{old_names, AgreeOnValues}
+use Rattle.task_laws.specs.legal.rewritten_types.Agreement.{Agrees}
+use Rattle.task_laws.proofs.legal.rewritten_types.Refused.{declared_once}
+use Rattle.task_laws.specs.legal.rewritten_values.Values.{old_names, AgreeOnValues}
 use Rattle.normal_model.specs.Names.{task_name}
 use Rattle.normal_model.specs.NormalTree.{tasks_beside, first_decls}
 use Rattle.normal_laws.specs.structure.types.Own.{own_name}
@@ -34,14 +34,14 @@ use Rattle.normal_laws.proofs.structure.units.Declared.{parts-all, numbered-task
 use Rattle.normal_laws.specs.runs.forms.Normalisable.{numbers_of, setting_for, made_for, NamesTell}
 use Rattle.normal_laws.proofs.structure.numbers.Named.{text-longer, own-within}
 use Rattle.normal_laws.proofs.structure.numbers.TaskNames.{normal-begins}
-use Rattle.legal_programs.specs.sites.Met.{IsMet, IsCheckMet}
-use Rattle.legal_programs.proofs.sites.Meeting.{all_met, all_check_met}
-use Rattle.legal_programs.specs.types.Typed.{IsFirstTask}
-use Rattle.legal_programs.proofs.types.MainScopes.{StandsWhole, AllStand, main-stands, last-stands}
-use Rattle.legal_programs.proofs.types.InnerScopes.{AreApart}
-use Rattle.legal_programs.proofs.types.StaticWorth.{named-alike, keeps-agrees}
-use Rattle.legal_programs.proofs.types.TypedValues.{anybody}
-use Rattle.legal_programs.proofs.types.LaterScopes.{valued-means}
+use Rattle.task_laws.specs.legal.sites.Met.{IsMet, IsCheckMet}
+use Rattle.task_laws.proofs.legal.sites.Meeting.{all_met, all_check_met}
+use Rattle.task_laws.specs.legal.types.Typed.{IsFirstTask}
+use Rattle.task_laws.proofs.legal.types.MainScopes.{StandsWhole, AllStand, main-stands, last-stands}
+use Rattle.task_laws.proofs.legal.types.InnerScopes.{AreApart}
+use Rattle.task_laws.proofs.legal.types.StaticWorth.{named-alike, keeps-agrees}
+use Rattle.task_laws.proofs.legal.types.TypedValues.{anybody}
+use Rattle.task_laws.proofs.legal.types.LaterScopes.{valued-means}
 use Rattle.normal_laws.specs.existence.variable_types.Ready.{IsReady}
 use Rattle.normal_laws.proofs.existence.variable_types.SubtypeForms.{predefined-own, meant-own}
 use Rattle.normal_laws.proofs.existence.units.Own.{program-own}

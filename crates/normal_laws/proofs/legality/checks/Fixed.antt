@@ -4,8 +4,8 @@ use Rattle.ada_tree.specs.TypeTable.{TypeTable}
 use Rattle.ada_tree.specs.PlainExpr.{PExpr, EInteger, EName, EIndex, EAttribute, EAttributeOf, EParen, EUnary, EBinary, RGiven}
 use Rattle.ada_tree.specs.Every.{EveryExpr}
 use Rattle.syn_event.specs.Extents.{Extent, fixed, between}
-use Rattle.legal_programs.specs.rewritten_types.Agreement.{Agrees}
-use Rattle.legal_programs.specs.rewritten_values.Values.{old_names}
+use Rattle.task_laws.specs.legal.rewritten_types.Agreement.{Agrees}
+use Rattle.task_laws.specs.legal.rewritten_values.Values.{old_names}
 use Rattle.normal_laws.proofs.structure.numbers.Extents.{extent-alike}
 use Rattle.normal_laws.specs.structure.checked.Around.{own_rules}
 use Rattle.common_lemmas.proofs.Options.{some_same}

@@ -18,14 +18,14 @@ use Rattle.syn_event.specs.NamedTasks.{type_named}
 use Rattle.ada_value.specs.declared.values.Form.{Form}
 use Rattle.ada_value.specs.Variables.{form_of_mark, form_of_kind}
 use Rattle.task_model.specs.Starting.{form_of, plain_form, marked_form, array_form}
-use Rattle.legal_programs.specs.rewritten_values.Values.{AgreeOnValues}
+use Rattle.task_laws.specs.legal.rewritten_values.Values.{AgreeOnValues}
 use Rattle.normal_model.specs.NormalTree.{mark_of}
-use Rattle.legal_programs.specs.sites.Met.{IsMet}
-use Rattle.legal_programs.specs.types.Typed.{IsScalarName}
-use Rattle.legal_programs.proofs.types.StaticParts.{HasSubtype, subind-met}
-use Rattle.legal_programs.proofs.types.MainScopes.{Stands}
-use Rattle.legal_programs.proofs.types.TaskTypes.{name-here}
-use Rattle.legal_programs.proofs.types.InnerScopes.{IsApartName, AreApart, names-apart}
+use Rattle.task_laws.specs.legal.sites.Met.{IsMet}
+use Rattle.task_laws.specs.legal.types.Typed.{IsScalarName}
+use Rattle.task_laws.proofs.legal.types.StaticParts.{HasSubtype, subind-met}
+use Rattle.task_laws.proofs.legal.types.MainScopes.{Stands}
+use Rattle.task_laws.proofs.legal.types.TaskTypes.{name-here}
+use Rattle.task_laws.proofs.legal.types.InnerScopes.{IsApartName, AreApart, names-apart}
 use Rattle.normal_laws.proofs.existence.units.Plain.{ArrayFree}
 use Rattle.normal_laws.proofs.structure.once.TaskTypes.{HasTypes, no-task}
 use Rattle.common_lemmas.proofs.Lists.{all_front, all_back, all_weaker}

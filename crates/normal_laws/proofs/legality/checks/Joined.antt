@@ -11,12 +11,12 @@ use Rattle.syn_event.specs.CheckScope.{CheckScope, CheckSite}
 use Rattle.syn_event.specs.CheckSites as check
 use Rattle.syn_event.specs.NamedTasks.{NamedTasks, type_named, with_type, task_names_of}
 use Rattle.syn_event.specs.DeclaredTasks.{decl_list}
-use Rattle.legal_programs.specs.sites.Met.{IsCheckMet}
+use Rattle.task_laws.specs.legal.sites.Met.{IsCheckMet}
 use Rattle.task_model.specs.Setting.{Setting}
 use Rattle.normal_model.specs.NormalTree.{mark_of, unless_left, first_decls, main_unit}
 use Rattle.normal_laws.proofs.structure.types.Variables.{unit-all}
 use Rattle.normal_laws.specs.runs.forms.Normalisable.{numbers_of, setting_for, made_for}
-use Rattle.legal_programs.specs.rewritten_values.Values.{old_names}
+use Rattle.task_laws.specs.legal.rewritten_values.Values.{old_names}
 use Rattle.normal_laws.proofs.structure.numbers.Listed.{IsPlain, bodies-all, first-plain, normal-list}
 use Rattle.normal_laws.proofs.structure.numbers.Listed as list
 use Rattle.normal_laws.proofs.structure.numbers.Numbered.{normal-single}

@@ -13,7 +13,7 @@ use Rattle.syn_event.specs.declared.numbering.Mode.TheVariants.{Any}
 use Rattle.syn_event.specs.CheckScope.{CheckScope, CheckSite}
 use Rattle.syn_event.specs.CheckSites as check
 use Rattle.syn_event.specs.DeclaredTasks.{decl_list}
-use Rattle.legal_programs.specs.sites.Met.{IsCheckMet}
+use Rattle.task_laws.specs.legal.sites.Met.{IsCheckMet}
 use Rattle.normal_laws.specs.structure.asked.Pieces.{IsAmong, first_among, later_among}
 use Rattle.normal_laws.proofs.structure.numbers.Listed.{IsOneBody}
 use Rattle.common_lemmas.proofs.Numbers.{equal_self, equal_is}

@@ -21,14 +21,14 @@ use Rattle.syn_event.specs.CheckSites as check
 use Rattle.syn_event.specs.Extents.{size, range_start}
 use Rattle.syn_event.specs.RuleSharedVariable.{shared_name, in_body_of, shared_variable}
 use Rattle.syn_event.specs.DeclaredTasks.{text_of}
-use Rattle.legal_programs.specs.rewritten_types.Agreement.{Agrees}
-use Rattle.legal_programs.specs.rewritten_values.Values.{old_names}
+use Rattle.task_laws.specs.legal.rewritten_types.Agreement.{Agrees}
+use Rattle.task_laws.specs.legal.rewritten_values.Values.{old_names}
 use Rattle.task_model.specs.Setting.{Setting}
 use Rattle.normal_model.specs.Names.{variable_name}
 use Rattle.normal_model.specs.Ranges.{word_at}
 use Rattle.normal_model.specs.Variables.{variable_declared}
 use Rattle.normal_model.specs.NormalTree.{decls_front}
-use Rattle.legal_programs.specs.sites.Met.{IsCheckMet}
+use Rattle.task_laws.specs.legal.sites.Met.{IsCheckMet}
 use Rattle.normal_laws.proofs.structure.placed.Added.{AreVariablesFrom}
 use Rattle.normal_laws.specs.structure.checked.Around.{own_rules, IsAround}
 use Rattle.normal_laws.proofs.structure.checked.Scopes.{use-under, callee-under, all-under}

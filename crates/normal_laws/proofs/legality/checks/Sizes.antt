@@ -18,9 +18,9 @@ use Rattle.syn_event.specs.Extents.{known_size, size, range_start}
 use Rattle.syn_event.specs.RuleLimit.{limit_passed}
 use Rattle.syn_event.specs.DeclaredTasks.{decl_list}
 use Rattle.syn_event.proofs.Nothing.{test_fails}
-use Rattle.legal_programs.specs.sites.Met.{IsCheckMet}
-use Rattle.legal_programs.specs.rewritten_types.Agreement.{Agrees}
-use Rattle.legal_programs.specs.rewritten_values.Values.{old_names}
+use Rattle.task_laws.specs.legal.sites.Met.{IsCheckMet}
+use Rattle.task_laws.specs.legal.rewritten_types.Agreement.{Agrees}
+use Rattle.task_laws.specs.legal.rewritten_values.Values.{old_names}
 use Rattle.normal_laws.proofs.structure.numbers.Extents.{extent-alike}
 use Rattle.normal_laws.proofs.structure.numbers.Listed.{IsPlain}
 use Rattle.common_lemmas.proofs.Lists.{all_front, all_back, all_first, all_second, all_third}

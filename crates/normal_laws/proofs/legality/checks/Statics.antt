@@ -16,7 +16,7 @@ use Rattle.syn_event.specs.RuleSharedVariable.{shared_variable}
 use Rattle.normal_model.specs.Calls.{Slot, slots_of}
 use Rattle.normal_model.specs.Ranges.{marked, subtype_of_range, range_of_info, family_range}
 use Rattle.normal_laws.specs.runs.forms.Normalisable.{numbers_of, setting_for}
-use Rattle.legal_programs.specs.types.Typed.{HasLimits}
+use Rattle.task_laws.specs.legal.types.Typed.{HasLimits}
 use Rattle.normal_laws.proofs.existence.variable_types.Numbers.{range-is}
 use Rattle.normal_laws.proofs.existence.variable_types.Subtypes.{own_rule, entry-known, array-own}
 use Rattle.normal_laws.specs.existence.Laws.{IsLegalOriginal}

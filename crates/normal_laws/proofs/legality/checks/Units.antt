@@ -19,12 +19,12 @@ use Rattle.syn_event.specs.AllNumbers.{info_of_task, all_numbers}
 use Rattle.task_model.specs.Setting.{Setting}
 use Rattle.normal_model.specs.Names.{task_name}
 use Rattle.normal_model.specs.NormalTree.{tasks_beside, normal_tree}
-use Rattle.legal_programs.proofs.rewritten_types.Lookups.{find-all}
+use Rattle.task_laws.proofs.legal.rewritten_types.Lookups.{find-all}
 use Rattle.normal_laws.specs.structure.types.Laws.{IsOrdered, setting_of}
 use Rattle.normal_laws.proofs.structure.numbers.Tasked.{under, normal-tasks-of}
 use Rattle.normal_laws.specs.structure.asked.Pieces.{IsAmong, first_among, later_among}
 use Rattle.normal_laws.proofs.structure.placed.Whole.{among-mapped}
-use Rattle.legal_programs.specs.types.Typed.{IsFirstTask}
+use Rattle.task_laws.specs.legal.types.Typed.{IsFirstTask}
 use Rattle.common_lemmas.proofs.Lists.{found_passes}
 use Rattle.common_lemmas.proofs.Numbers.{equal_self, equal_is}
 use Rattle.common_lemmas.proofs.Options.{some_same, some_there}

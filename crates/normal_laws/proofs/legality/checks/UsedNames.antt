@@ -13,8 +13,8 @@ use Rattle.syn_event.specs.declared.meanings.Meant.{Meant}
 use Rattle.syn_event.specs.declared.meanings.Meant.TheVariants.{MainProcedure, TaskType, TaskOf, Shared, Inner}
 use Rattle.syn_event.specs.CheckScope.{CheckScope, meaning}
 use Rattle.syn_event.specs.CheckSites.{with_meant, with_declared_object, with_object}
-use Rattle.legal_programs.specs.rewritten_types.Rewriting.{names_declared, IsUsed, IsUnused}
-use Rattle.legal_programs.proofs.rewritten_types.Fresh.{other}
+use Rattle.task_laws.specs.legal.rewritten_types.Rewriting.{names_declared, IsUsed, IsUnused}
+use Rattle.task_laws.proofs.legal.rewritten_types.Fresh.{other}
 use Rattle.normal_laws.proofs.structure.once.FirstDecls.{here-after}
 use Rattle.normal_laws.proofs.existence.seen_tasks.Scopes.{is_one_of, meant-out, meant-in}
 use Rattle.common_lemmas.proofs.Numbers.{equal_is}

@@ -22,8 +22,8 @@ use Rattle.syn_event.specs.NamedTasks.{NumberedTask}
 use Rattle.syn_event.specs.DeclaredTasks.{decl_list}
 use Rattle.syn_event.proofs.Nothing.{test_fails}
 use Rattle.task_model.specs.Setting.{Setting}
-use Rattle.legal_programs.specs.sites.Met.{IsMet}
-use Rattle.legal_programs.proofs.rewritten_types.Lookups.{place-all}
+use Rattle.task_laws.specs.legal.sites.Met.{IsMet}
+use Rattle.task_laws.proofs.legal.rewritten_types.Lookups.{place-all}
 use Rattle.normal_model.specs.Names.{variable_name, task_name}
 use Rattle.normal_model.specs.NormalStmts.{normal_body, unit_variables}
 use Rattle.normal_model.specs.NormalTree.{decls_front, tasks_beside, unit_for, first_running, running, body_copy, bodies_of}

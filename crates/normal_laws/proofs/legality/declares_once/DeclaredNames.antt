@@ -13,7 +13,7 @@ use Rattle.ada_static_rules.specs.RuleDuplicate.{is_among}
 use Rattle.ada_static_rules.specs.Sites.{with_words}
 use Rattle.syn_event.specs.NamedTasks.{NamedTasks, type_named, with_type, task_names_of_type, object_task_names, single_task_name, task_names_in}
 use Rattle.normal_model.specs.NormalTree.{mark_of, unless_left, first_decls}
-use Rattle.legal_programs.specs.rewritten_types.Rewriting.{names_declared, IsUnused, DeclareOnce}
+use Rattle.task_laws.specs.legal.rewritten_types.Rewriting.{names_declared, IsUnused, DeclareOnce}
 use Rattle.normal_laws.specs.structure.once.Apart.{IsFreeOf, AreApart}
 use Rattle.normal_laws.proofs.structure.once.Once.{free-front, free-back, free-both}
 use Rattle.normal_laws.proofs.structure.once.FirstDecls.{here-after}

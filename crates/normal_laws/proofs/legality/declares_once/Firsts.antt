@@ -15,7 +15,7 @@ use Rattle.ada_static_rules.specs.Sites.{decl_sites, decls_sites}
 use Rattle.syn_event.specs.NamedTasks.{type_named, with_type}
 use Rattle.syn_event.specs.DeclaredTasks.{decl_list}
 use Rattle.normal_model.specs.NormalTree.{mark_of, unless_left, first_decls}
-use Rattle.legal_programs.specs.rewritten_types.Rewriting.{names_declared}
+use Rattle.task_laws.specs.legal.rewritten_types.Rewriting.{names_declared}
 use Rattle.ada_decl_rules.proofs.duplicates.Noting.{quiet_static, namings_append, quiet_none}
 use Rattle.normal_laws.proofs.structure.numbers.Listed.{IsPlain}
 use Rattle.ada_decl_rules.specs.declared.duplicates.namings_in_order.Naming.{Naming}

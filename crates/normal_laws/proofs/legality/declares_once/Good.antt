@@ -9,8 +9,8 @@ use Rattle.ada_tree.specs.WellPlaced.{tokens}
 use Rattle.syn_event.specs.DeclaredTasks.{text_of}
 use Rattle.syn_event.specs.RuleReservedName.{is_reserved}
 use Rattle.syn_event.proofs.Weaker.{placed_tokens}
-use Rattle.legal_programs.proofs.sites.Both.{together}
-use Rattle.legal_programs.proofs.sites.NamedDecls.{all_are_named}
+use Rattle.task_laws.proofs.legal.sites.Both.{together}
+use Rattle.task_laws.proofs.legal.sites.NamedDecls.{all_are_named}
 use Rattle.normal_laws.proofs.existence.units.Apart.{all-addressed}
 use Rattle.normal_laws.proofs.existence.units.DeclaredNames.{IsGood}
 use Rattle.normal_laws.specs.existence.Laws.{IsLegalOriginal}

@@ -14,8 +14,8 @@ use Rattle.syn_event.specs.declared.numbering.TaskInfo.{TaskInfo}
 use Rattle.syn_event.specs.DeclaredTasks.{text_of}
 use Rattle.syn_event.specs.RuleReservedName.{has_mark, is_reserved}
 use Rattle.task_model.specs.Setting.{Setting}
-use Rattle.legal_programs.proofs.rewritten_types.Lookups.{place-all}
-use Rattle.legal_programs.proofs.rewritten_values.Saying.{place-within}
+use Rattle.task_laws.proofs.legal.rewritten_types.Lookups.{place-all}
+use Rattle.task_laws.proofs.legal.rewritten_values.Saying.{place-within}
 use Rattle.normal_model.specs.Names.{name_of_member, variable_text, member_texts, with_members, normal_names, variable_name, task_name}
 use Rattle.normal_model.proofs.VariablesLemmas.{Begins}
 use Rattle.normal_laws.proofs.structure.types.Names.{fold-begins, variables-begin, names-begin, variable-there}

@@ -23,15 +23,15 @@ use Rattle.syn_event.specs.CheckScope.{CheckScope}
 use Rattle.syn_event.specs.CheckSites as checks
 use Rattle.syn_event.proofs.Weaker.{placed_tokens}
 use Rattle.task_model.specs.Setting.{Setting}
-use Rattle.legal_programs.specs.sites.Met.{IsMet}
-use Rattle.legal_programs.proofs.sites.Meeting.{all_met}
-use Rattle.legal_programs.proofs.types.MainScopes.{main-stands}
-use Rattle.legal_programs.proofs.types.TaskTypes.{all-ranges, tasks-have-types}
+use Rattle.task_laws.specs.legal.sites.Met.{IsMet}
+use Rattle.task_laws.proofs.legal.sites.Meeting.{all_met}
+use Rattle.task_laws.proofs.legal.types.MainScopes.{main-stands}
+use Rattle.task_laws.proofs.legal.types.TaskTypes.{all-ranges, tasks-have-types}
 use Rattle.normal_model.specs.Names.{variable_name, member_name, task_name}
 use Rattle.normal_model.specs.NormalTree.{first_decls, tasks_beside}
-use Rattle.legal_programs.specs.rewritten_types.Rewriting.{IsUnused, DeclareOnce}
-use Rattle.legal_programs.proofs.rewritten_types.Lookups.{place-all}
-use Rattle.legal_programs.proofs.rewritten_types.Refused.{declared_once}
+use Rattle.task_laws.specs.legal.rewritten_types.Rewriting.{IsUnused, DeclareOnce}
+use Rattle.task_laws.proofs.legal.rewritten_types.Lookups.{place-all}
+use Rattle.task_laws.proofs.legal.rewritten_types.Refused.{declared_once}
 use Rattle.normal_laws.specs.structure.types.Laws.{IsOrdered}
 use Rattle.normal_laws.proofs.structure.units.Pairs.{names_tell_units}
 use Rattle.normal_laws.specs.runs.forms.Normalisable.{numbers_of, setting_for}

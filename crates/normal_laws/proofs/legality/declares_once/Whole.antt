@@ -18,8 +18,8 @@ use Rattle.ada_static_rules.specs.Sites.{names_sites, decls_sites, body_sites, s
 use Rattle.syn_event.specs.NamedTasks.{NumberedTask, task_names_of, numbered_tasks}
 use Rattle.syn_event.specs.DeclaredTasks.{decl_list, tasks_in}
 use Rattle.task_model.specs.Setting.{Setting}
-use Rattle.legal_programs.specs.rewritten_types.Rewriting.{DeclareOnce}
-use Rattle.legal_programs.proofs.rewritten_types.Refused.{declared_once}
+use Rattle.task_laws.specs.legal.rewritten_types.Rewriting.{DeclareOnce}
+use Rattle.task_laws.proofs.legal.rewritten_types.Refused.{declared_once}
 use Rattle.normal_model.specs.Names.{variable_name}
 use Rattle.normal_model.specs.NormalStmts.{normal_body}
 use Rattle.normal_model.specs.NormalTree.{first_decls, tasks_beside, task_declared, bodies_of, main_unit, main_variables}

@@ -15,7 +15,7 @@ use Rattle.syn_event.specs.Numbering.{task_at}
 use Rattle.syn_event.specs.DeclaredTasks.{decl_list}
 use Rattle.task_model.specs.Setting.{Setting}
 use Rattle.task_model.specs.Starting.{Unit as TaskUnit, unit_among, unit_of_info}
-use Rattle.legal_programs.specs.asked.Asked.{AskedBody}
+use Rattle.task_laws.specs.legal.asked.Asked.{AskedBody}
 use Rattle.normal_model.specs.NormalTree.{tasks_beside}
 use Rattle.normal_laws.specs.structure.asked.Pieces.{IsAmong}
 use Rattle.normal_laws.specs.structure.placed.Placeable.{call_asks, TakesCalls}
@@ -23,8 +23,8 @@ use Rattle.normal_laws.proofs.existence.room.Taken.{body-taken}
 use Rattle.normal_laws.proofs.existence.room.OneBody.{IsTheBody, bodies-once}
 use Rattle.normal_laws.specs.runs.runs.Premises.{Rewrite, unit_at, unit_before}
 use Rattle.normal_laws.specs.runs.forms.Normalisable.{numbers_of, setting_for, normal_rewrite, IsNormalisable}
-use Rattle.legal_programs.specs.sites.Met.{IsMet}
-use Rattle.legal_programs.proofs.sites.Meeting.{all_met}
+use Rattle.task_laws.specs.legal.sites.Met.{IsMet}
+use Rattle.task_laws.proofs.legal.sites.Meeting.{all_met}
 use Rattle.normal_laws.specs.existence.Laws.{IsLegalOriginal}
 use Rattle.normal_laws.proofs.existence.Joined.{legal_is_normalisable}
 

@@ -1,7 +1,7 @@
 -- Each legal program has room, so its normal form is well placed.
 use Rattle.ada_static_rules.specs.Refusals.{types_in}
 use Rattle.syn_event.specs.NamedTasks.{task_names_of}
-use Rattle.legal_programs.proofs.types.TaskTypes.{tasks-have-types}
+use Rattle.task_laws.proofs.legal.types.TaskTypes.{tasks-have-types}
 use Rattle.normal_laws.proofs.structure.placed.Originals.{all_originals_placed}
 use Rattle.normal_laws.specs.legality.placed.Laws.{LegalHasRoom, NormalIsPlaced}
 use Rattle.normal_laws.proofs.legality.placed.Indices.{tasks-small}

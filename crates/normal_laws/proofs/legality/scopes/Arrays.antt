@@ -19,9 +19,9 @@ use Rattle.task_model.specs.Setting.{Setting, is_member}
 use Rattle.normal_model.specs.Ranges.{array_range}
 use Rattle.normal_model.specs.Members.{members_of}
 use Rattle.normal_model.specs.NormalTree.{tasks_beside}
-use Rattle.legal_programs.proofs.rewritten_types.Lookups.{find-all}
-use Rattle.legal_programs.specs.literals.Literals.{HasIndexLiterals}
-use Rattle.legal_programs.proofs.literals.Indices.{indices-are-literals}
+use Rattle.task_laws.proofs.legal.rewritten_types.Lookups.{find-all}
+use Rattle.task_laws.specs.legal.literals.Literals.{HasIndexLiterals}
+use Rattle.task_laws.proofs.legal.literals.Indices.{indices-are-literals}
 use Rattle.normal_laws.proofs.structure.entries.Lists.{found-place}
 use Rattle.normal_laws.specs.existence.Laws.{IsLegalOriginal}
 use Rattle.normal_laws.proofs.existence.seen_tasks.Parts.{is_called, IsTaskArray}

@@ -6,13 +6,13 @@ use Rattle.ada_tree.specs.declared.static_types.Kind.TheVariants.{Integer, Truth
 use Rattle.ada_tree.specs.declared.static_types.Mark.{Mark}
 use Rattle.ada_tree.specs.TypeTable.{TypeTable}
 use Rattle.ada_static_rules.specs.Scope.{Scope, Range, Thing, TypeMark, TaskType, SingleTask, TaskObject, TaskArray, Variable, ConstantObject, Parameter, LoopParameter, Literal, AnException, MainProcedure, AnotherUnit, Unclear, kind_at, mark_at, meaning}
-use Rattle.legal_programs.specs.rewritten_types.Agreement.{scalar_only, IsScalar, Grows, Keeps, Sound, WholeTable}
-use Rattle.legal_programs.proofs.rewritten_types.Keeping.{grows-self, keeps-self}
-use Rattle.legal_programs.proofs.types.ExprKinds.{LeadsOn, IsClearThing}
-use Rattle.legal_programs.proofs.types.FirmTables.{scalar-grown}
-use Rattle.legal_programs.proofs.types.TypedValues.{anybody}
-use Rattle.legal_programs.specs.alike_scopes.Alike.{SameScalar, SameMark, of_values, of_arrays, no_thing, a_task_type, a_task, a_task_object, a_task_array, the_procedure, a_unit, SameThing, same_type, same_variable, same_constant, same_parameter, same_loop_parameter, same_literal, same_exception, no_values, SameNames}
-use Rattle.legal_programs.proofs.alike_scopes.Tables.{rooted_is_same}
+use Rattle.task_laws.specs.legal.rewritten_types.Agreement.{scalar_only, IsScalar, Grows, Keeps, Sound, WholeTable}
+use Rattle.task_laws.proofs.legal.rewritten_types.Keeping.{grows-self, keeps-self}
+use Rattle.task_laws.proofs.legal.types.ExprKinds.{LeadsOn, IsClearThing}
+use Rattle.task_laws.proofs.legal.types.FirmTables.{scalar-grown}
+use Rattle.task_laws.proofs.legal.types.TypedValues.{anybody}
+use Rattle.task_laws.specs.legal.alike_scopes.Alike.{SameScalar, SameMark, of_values, of_arrays, no_thing, a_task_type, a_task, a_task_object, a_task_array, the_procedure, a_unit, SameThing, same_type, same_variable, same_constant, same_parameter, same_loop_parameter, same_literal, same_exception, no_values, SameNames}
+use Rattle.task_laws.proofs.legal.alike_scopes.Tables.{rooted_is_same}
 use Rattle.normal_laws.proofs.legality.scopes.Parts.{HasParts}
 use Rattle.normal_laws.proofs.legality.scopes.Kept.{IsKept, is_same, is_none}
 use Rattle.normal_laws.proofs.legality.scopes.Places.{IsBeside, IsClearly}

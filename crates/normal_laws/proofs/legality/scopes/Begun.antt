@@ -12,14 +12,14 @@ use Rattle.ada_static_rules.specs.Declaring.{predefined_types, first_scope}
 use Rattle.syn_event.specs.declared.numbering.TaskInfo.{TaskInfo}
 use Rattle.normal_model.specs.Names.{variable_name, task_name}
 use Rattle.normal_model.specs.NormalTree.{tasks_beside, first_decls}
-use Rattle.legal_programs.specs.rewritten_types.Agreement.{scalar_only, Grows}
-use Rattle.legal_programs.proofs.rewritten_types.Lookups.{find-grown}
-use Rattle.legal_programs.proofs.rewritten_types.Keeping.{grows-on}
-use Rattle.legal_programs.proofs.types.MainScopes.{grows-decls}
+use Rattle.task_laws.specs.legal.rewritten_types.Agreement.{scalar_only, Grows}
+use Rattle.task_laws.proofs.legal.rewritten_types.Lookups.{find-grown}
+use Rattle.task_laws.proofs.legal.rewritten_types.Keeping.{grows-on}
+use Rattle.task_laws.proofs.legal.types.MainScopes.{grows-decls}
 use Rattle.normal_laws.specs.existence.Laws.{IsLegalOriginal}
 use Rattle.normal_laws.specs.structure.asked.Pieces.{IsAmong}
 use Rattle.normal_laws.specs.structure.typed.ScopeOf.{IsLiteralOf, MeansLiteral, MeansInteger}
-use Rattle.legal_programs.specs.alike_scopes.Alike.{SameTypes}
+use Rattle.task_laws.specs.legal.alike_scopes.Alike.{SameTypes}
 use Rattle.normal_laws.specs.legality.scopes.Plain.{plain_name}
 use Rattle.normal_laws.proofs.legality.scopes.Names.{member-new, variable-task}
 use Rattle.normal_laws.proofs.legality.scopes.Plain.{predefined-plain}

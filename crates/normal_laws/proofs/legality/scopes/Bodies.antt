@@ -7,12 +7,12 @@ use Rattle.ada_static_rules.specs.Scope.{Scope, EntryPart, meaning, entry_named}
 use Rattle.ada_static_rules.specs.RuleUnknown.{no_body_of}
 use Rattle.ada_static_rules.specs.Declaring.{task_thing, own_entries, in_body, inner_scope, after_own_object, after_objects}
 use Rattle.normal_model.specs.NormalTree.{decls_front}
-use Rattle.legal_programs.specs.rewritten_types.Rewriting.{AreAdded}
-use Rattle.legal_programs.proofs.rewritten_types.Adding.{names-main}
-use Rattle.legal_programs.specs.alike_scopes.Alike.{SameNames, Alike}
-use Rattle.legal_programs.specs.alike_scopes.Old.{AreOldObjects}
-use Rattle.legal_programs.proofs.alike_scopes.Naming.{inside-alike}
-use Rattle.legal_programs.proofs.alike_scopes.Inner.{objects-alike, new-objects}
+use Rattle.task_laws.specs.legal.rewritten_types.Rewriting.{AreAdded}
+use Rattle.task_laws.proofs.legal.rewritten_types.Adding.{names-main}
+use Rattle.task_laws.specs.legal.alike_scopes.Alike.{SameNames, Alike}
+use Rattle.task_laws.specs.legal.alike_scopes.Old.{AreOldObjects}
+use Rattle.task_laws.proofs.legal.alike_scopes.Naming.{inside-alike}
+use Rattle.task_laws.proofs.legal.alike_scopes.Inner.{objects-alike, new-objects}
 use Rattle.normal_laws.proofs.legality.scopes.Seeing.{entries_in}
 use Rattle.normal_laws.proofs.legality.scopes.Units.{IsUnitOrNot}
 

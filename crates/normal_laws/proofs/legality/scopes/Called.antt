@@ -29,14 +29,14 @@ use Rattle.task_model.specs.Setting.{Setting, entry_of, is_family}
 use Rattle.normal_model.specs.Calls.{slots_of}
 use Rattle.normal_model.specs.Ranges.{family_range}
 use Rattle.normal_model.specs.NormalTree.{tasks_beside, first_running}
-use Rattle.legal_programs.specs.rewritten_types.Rewriting.{DeclareOnce}
-use Rattle.legal_programs.proofs.rewritten_types.Lookups.{find-all, place-all}
-use Rattle.legal_programs.proofs.rewritten_types.Fresh.{InHere, here-decl}
-use Rattle.legal_programs.proofs.rewritten_types.Adding.{names-main}
-use Rattle.legal_programs.specs.sites.Met.{IsMet}
-use Rattle.legal_programs.proofs.sites.Meeting.{all_met}
-use Rattle.legal_programs.specs.types.Typed.{IsFirstTask}
-use Rattle.legal_programs.proofs.types.TaskTypes.{part-units, tasks-have-types}
+use Rattle.task_laws.specs.legal.rewritten_types.Rewriting.{DeclareOnce}
+use Rattle.task_laws.proofs.legal.rewritten_types.Lookups.{find-all, place-all}
+use Rattle.task_laws.proofs.legal.rewritten_types.Fresh.{InHere, here-decl}
+use Rattle.task_laws.proofs.legal.rewritten_types.Adding.{names-main}
+use Rattle.task_laws.specs.legal.sites.Met.{IsMet}
+use Rattle.task_laws.proofs.legal.sites.Meeting.{all_met}
+use Rattle.task_laws.specs.legal.types.Typed.{IsFirstTask}
+use Rattle.task_laws.proofs.legal.types.TaskTypes.{part-units, tasks-have-types}
 use Rattle.normal_laws.proofs.structure.entries.Lists.{found-place}
 use Rattle.normal_laws.proofs.structure.entries.Entries.{IsTaskOf, HasEntry, entry-there}
 use Rattle.normal_laws.specs.existence.Laws.{IsLegalOriginal}

@@ -18,17 +18,17 @@ use Rattle.syn_event.specs.NamedTasks.{task_names_of}
 use Rattle.ada_value.specs.Values.{word, placed}
 use Rattle.normal_model.specs.Names.{variable_name, task_name}
 use Rattle.normal_model.specs.NormalTree.{tasks_beside, main_unit, main_variables}
-use Rattle.legal_programs.specs.rewritten_types.Agreement.{literal_named}
-use Rattle.legal_programs.specs.rewritten_types.Agreement as agreement
-use Rattle.legal_programs.proofs.rewritten_types.Fresh.{first-here}
-use Rattle.legal_programs.proofs.types.TypedValues.{IsOf}
-use Rattle.legal_programs.proofs.types.GoodScopes.{names-kept}
-use Rattle.legal_programs.proofs.types.GoodDeclarations.{literal-read}
-use Rattle.legal_programs.proofs.types.MainScopes.{StandsWhole, main-stands, last-stands}
-use Rattle.legal_programs.proofs.literals.Named.{AreFirst, first-decls, first-predefined}
+use Rattle.task_laws.specs.legal.rewritten_types.Agreement.{literal_named}
+use Rattle.task_laws.specs.legal.rewritten_types.Agreement as agreement
+use Rattle.task_laws.proofs.legal.rewritten_types.Fresh.{first-here}
+use Rattle.task_laws.proofs.legal.types.TypedValues.{IsOf}
+use Rattle.task_laws.proofs.legal.types.GoodScopes.{names-kept}
+use Rattle.task_laws.proofs.legal.types.GoodDeclarations.{literal-read}
+use Rattle.task_laws.proofs.legal.types.MainScopes.{StandsWhole, main-stands, last-stands}
+use Rattle.task_laws.proofs.legal.literals.Named.{AreFirst, first-decls, first-predefined}
 use Rattle.normal_laws.proofs.structure.types.Variables.{unit-all}
 use Rattle.normal_laws.specs.existence.Laws.{IsLegalOriginal}
-use Rattle.legal_programs.specs.alike_scopes.Alike.{IsNoValue, no_thing, a_task_type, a_task, a_task_object, a_task_array, the_procedure, a_unit}
+use Rattle.task_laws.specs.legal.alike_scopes.Alike.{IsNoValue, no_thing, a_task_type, a_task, a_task_object, a_task_array, the_procedure, a_unit}
 use Rattle.normal_laws.specs.legality.scopes.Plain.{plain_name}
 use Rattle.normal_laws.proofs.legality.scopes.Later.{decls-kept}
 use Rattle.normal_laws.proofs.legality.scopes.Kept.{IsKept, is_same, is_none}

@@ -23,12 +23,12 @@ use Rattle.normal_model.specs.Variables.{variable_declared}
 use Rattle.normal_model.specs.NormalStmts.{unit_variables}
 use Rattle.normal_model.specs.RewrittenUnit.{RewrittenUnit}
 use Rattle.normal_model.specs.NormalTree.{task_under, task_declared, running, bodies_of}
-use Rattle.legal_programs.specs.rewritten_types.Agreement.{Keeps}
-use Rattle.legal_programs.proofs.rewritten_types.Adding.{keeps-decl, keeps-objects}
-use Rattle.legal_programs.specs.rewritten_values.Values.{old_names}
+use Rattle.task_laws.specs.legal.rewritten_types.Agreement.{Keeps}
+use Rattle.task_laws.proofs.legal.rewritten_types.Adding.{keeps-decl, keeps-objects}
+use Rattle.task_laws.specs.legal.rewritten_values.Values.{old_names}
 use Rattle.normal_laws.proofs.structure.types.Variables.{all-flat, all-mapped, unit-all}
-use Rattle.legal_programs.specs.alike_scopes.Alike.{IsNoValue, no_thing, a_task, a_task_object, a_task_array, no_values, SameNames}
-use Rattle.legal_programs.proofs.alike_scopes.Naming.{name-right, names-new, table-right}
+use Rattle.task_laws.specs.legal.alike_scopes.Alike.{IsNoValue, no_thing, a_task, a_task_object, a_task_array, no_values, SameNames}
+use Rattle.task_laws.proofs.legal.alike_scopes.Naming.{name-right, names-new, table-right}
 use Rattle.normal_laws.proofs.legality.scopes.Seeing.{HasEntries, entries_in}
 use Rattle.normal_laws.proofs.legality.scopes.Places.{IsPlaced}
 use Rattle.normal_laws.proofs.legality.scopes.Tasks.{has_name, one-under, entries-same}

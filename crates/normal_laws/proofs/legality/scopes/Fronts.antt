@@ -14,28 +14,28 @@ use Rattle.ada_tree.specs.PlainProgram.{PProgram}
 use Rattle.ada_static_rules.specs.Refusals.{types_in}
 use Rattle.ada_static_rules.specs.Declaring.{first_scope, declared_object, with_constants, with_types, with_name, in_body, after_decl, after_decls}
 use Rattle.syn_event.specs.NamedTasks.{NamedTasks, type_named, with_type, single_task_name, object_task_names, task_names_in, task_names_of}
-use Rattle.legal_programs.specs.rewritten_types.Agreement.{Keeps}
-use Rattle.legal_programs.specs.rewritten_types.Rewriting.{valued, IsFree, IsUsed, IsUnused, DeclareOnce, NamesOnce, IsFirst, names_declared}
-use Rattle.legal_programs.specs.rewritten_types.Rewriting as rewriting
-use Rattle.legal_programs.specs.rewritten_types.Laws.{behind}
-use Rattle.legal_programs.proofs.rewritten_types.Keeping.{keeps-self, keeps-on}
-use Rattle.legal_programs.proofs.rewritten_types.Adding.{keeps-objects}
-use Rattle.legal_programs.proofs.rewritten_types.Fresh.{InHere, first-here, unused-free, unused-all, meaning-used, used-more, other}
-use Rattle.legal_programs.proofs.rewritten_types.Closing.{Close, close-self}
-use Rattle.legal_programs.proofs.rewritten_types.Moving.{close-decl, hide-task, hide-object}
-use Rattle.legal_programs.proofs.types.ExprKinds.{IsClearThing}
-use Rattle.legal_programs.proofs.types.TypedValues.{anybody}
-use Rattle.legal_programs.proofs.types.GoodScopes.{names-kept}
-use Rattle.legal_programs.proofs.types.MainScopes.{Stands, AllStand}
-use Rattle.legal_programs.proofs.types.TaskTypes.{DeclRanges, AllRanges}
+use Rattle.task_laws.specs.legal.rewritten_types.Agreement.{Keeps}
+use Rattle.task_laws.specs.legal.rewritten_types.Rewriting.{valued, IsFree, IsUsed, IsUnused, DeclareOnce, NamesOnce, IsFirst, names_declared}
+use Rattle.task_laws.specs.legal.rewritten_types.Rewriting as rewriting
+use Rattle.task_laws.specs.legal.rewritten_types.Laws.{behind}
+use Rattle.task_laws.proofs.legal.rewritten_types.Keeping.{keeps-self, keeps-on}
+use Rattle.task_laws.proofs.legal.rewritten_types.Adding.{keeps-objects}
+use Rattle.task_laws.proofs.legal.rewritten_types.Fresh.{InHere, first-here, unused-free, unused-all, meaning-used, used-more, other}
+use Rattle.task_laws.proofs.legal.rewritten_types.Closing.{Close, close-self}
+use Rattle.task_laws.proofs.legal.rewritten_types.Moving.{close-decl, hide-task, hide-object}
+use Rattle.task_laws.proofs.legal.types.ExprKinds.{IsClearThing}
+use Rattle.task_laws.proofs.legal.types.TypedValues.{anybody}
+use Rattle.task_laws.proofs.legal.types.GoodScopes.{names-kept}
+use Rattle.task_laws.proofs.legal.types.MainScopes.{Stands, AllStand}
+use Rattle.task_laws.proofs.legal.types.TaskTypes.{DeclRanges, AllRanges}
 use Rattle.normal_model.specs.NormalTree.{mark_of, unless_left, first_decls}
 use Rattle.normal_laws.proofs.structure.once.TaskTypes.{HasTypes, first-types, kinds_after, types-after, no-task}
-use Rattle.legal_programs.specs.alike_scopes.Alike.{IsNoValue, no_thing, a_task_type, a_task, a_task_object, a_task_array, the_procedure, a_unit}
+use Rattle.task_laws.specs.legal.alike_scopes.Alike.{IsNoValue, no_thing, a_task_type, a_task, a_task_object, a_task_array, the_procedure, a_unit}
 use Rattle.normal_laws.proofs.legality.scopes.Later.{AllEntries}
 use Rattle.normal_laws.proofs.legality.scopes.Places.{AtBodies, IsSeenOrHidden, IsPlaced, IsClearly}
 use Rattle.normal_laws.proofs.legality.scopes.Kept.{IsKept, is_same, is_none, AreKept, none-kept, kept-name, kept-hidden, kept-all-hidden, kept-decl, IsBoth}
 use Rattle.normal_laws.proofs.legality.scopes.Seeing.{HasEntries, kinds_behind, parts_of, entries_in, type-mark, object-typed, Sees, sees-step, parts-hidden}
-use Rattle.legal_programs.proofs.alike_scopes.Mains.{task-none}
+use Rattle.task_laws.proofs.legal.alike_scopes.Mains.{task-none}
 use Rattle.ada_static_rules.proofs.found_twice.Declared.{name_means}
 
 -- ---- behind the first body

@@ -18,10 +18,10 @@ use Rattle.syn_event.specs.DeclaredTasks.{tasks_of}
 use Rattle.task_model.specs.Setting.{Setting}
 use Rattle.normal_model.specs.Names.{member_name}
 use Rattle.normal_model.specs.NormalTree.{tasks_beside}
-use Rattle.legal_programs.specs.rewritten_types.Rewriting.{DeclareOnce}
-use Rattle.legal_programs.specs.rewritten_values.Values.{old_names}
-use Rattle.legal_programs.specs.types.Typed.{IsFirstTask}
-use Rattle.legal_programs.proofs.types.TaskTypes.{part-units}
+use Rattle.task_laws.specs.legal.rewritten_types.Rewriting.{DeclareOnce}
+use Rattle.task_laws.specs.legal.rewritten_values.Values.{old_names}
+use Rattle.task_laws.specs.legal.types.Typed.{IsFirstTask}
+use Rattle.task_laws.proofs.legal.types.TaskTypes.{part-units}
 use Rattle.normal_laws.specs.structure.types.Laws.{setting_of}
 use Rattle.normal_laws.proofs.structure.units.Declared.{one-there, each-there}
 use Rattle.normal_laws.proofs.structure.units.Pairs.{part-infos}

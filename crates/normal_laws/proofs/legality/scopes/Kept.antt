@@ -12,10 +12,10 @@ use Rattle.ada_tree.specs.PlainDecl.{PShape, OPlain, OArray, PDecl, DNumber, DOb
 use Rattle.ada_static_rules.specs.Scope.{Scope, NameMeaning, Thing, TypeMark, ConstantObject, Literal, AnException, AnotherUnit, Unclear, EntryPart, Range, Marking, ScalarMark, ArrayMark, TaskMark, NoMark, UnknownMark, UnclearMark, marking, meaning}
 use Rattle.ada_static_rules.specs.Sites.{is_task_object}
 use Rattle.ada_static_rules.specs.Declaring.{seen_as, with_name, with_names, with_types, made_named_array, made_subtype, object_meaning, type_of_mark, task_object, task_array, plain_object, array_object, declared_object, with_constants, after_decl}
-use Rattle.legal_programs.specs.rewritten_types.Rewriting.{valued}
-use Rattle.legal_programs.proofs.rewritten_types.Closing.{Close}
-use Rattle.legal_programs.proofs.types.GoodScopes.{IsIn, names-new}
-use Rattle.legal_programs.specs.alike_scopes.Alike.{IsNoValue, no_thing}
+use Rattle.task_laws.specs.legal.rewritten_types.Rewriting.{valued}
+use Rattle.task_laws.proofs.legal.rewritten_types.Closing.{Close}
+use Rattle.task_laws.proofs.legal.types.GoodScopes.{IsIn, names-new}
+use Rattle.task_laws.specs.legal.alike_scopes.Alike.{IsNoValue, no_thing}
 
 -- What a name means is the same in two scopes, or no value in both.
 pub data IsKept (a b : Option Thing) : Type 0 where

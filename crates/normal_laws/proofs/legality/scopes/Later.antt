@@ -19,20 +19,20 @@ use Rattle.ada_static_rules.specs.Sites.{if_there, names_sites, drange_sites, ma
 use Rattle.ada_static_rules.specs.Demand.{scalar_only}
 use Rattle.ada_static_rules.specs.RuleMismatch.{is_allowed}
 use Rattle.ada_static_rules.specs.Declaring.{inner_scope, given_range, marked_range, drange_range, family_of, entry_family, formal_parts, entry_part, with_name, with_types, after_decl, after_decls}
-use Rattle.legal_programs.specs.rewritten_types.Agreement.{Grows}
-use Rattle.legal_programs.specs.rewritten_types.Rewriting.{IsUnused, DeclareOnce, names_declared}
-use Rattle.legal_programs.proofs.rewritten_types.Fresh.{InHere, here-decl}
-use Rattle.legal_programs.specs.sites.Met.{IsMet}
+use Rattle.task_laws.specs.legal.rewritten_types.Agreement.{Grows}
+use Rattle.task_laws.specs.legal.rewritten_types.Rewriting.{IsUnused, DeclareOnce, names_declared}
+use Rattle.task_laws.proofs.legal.rewritten_types.Fresh.{InHere, here-decl}
+use Rattle.task_laws.specs.legal.sites.Met.{IsMet}
 use Rattle.common_lemmas.proofs.Lists.{all_front, all_back, all_unflat}
 use Rattle.common_lemmas.proofs.Truth.{and_left, and_right}
 use Rattle.common_lemmas.proofs.Options.{not_missing}
-use Rattle.legal_programs.proofs.types.ExprKinds.{LeadsOn, IsClearThing, scalar-mark}
-use Rattle.legal_programs.proofs.sites.Around.{test-holds}
-use Rattle.legal_programs.proofs.types.StaticParts.{IsStaticIn, AreBounds, HasRange, drange-met, static-told}
-use Rattle.legal_programs.proofs.types.TypedValues.{are-taken}
-use Rattle.legal_programs.proofs.types.GoodScopes.{names-kept, unused-apart}
-use Rattle.legal_programs.proofs.types.MainScopes.{Stands, AllStand, grows-decls}
-use Rattle.legal_programs.proofs.types.TaskTypes.{worth-here}
+use Rattle.task_laws.proofs.legal.types.ExprKinds.{LeadsOn, IsClearThing, scalar-mark}
+use Rattle.task_laws.proofs.legal.sites.Around.{test-holds}
+use Rattle.task_laws.proofs.legal.types.StaticParts.{IsStaticIn, AreBounds, HasRange, drange-met, static-told}
+use Rattle.task_laws.proofs.legal.types.TypedValues.{are-taken}
+use Rattle.task_laws.proofs.legal.types.GoodScopes.{names-kept, unused-apart}
+use Rattle.task_laws.proofs.legal.types.MainScopes.{Stands, AllStand, grows-decls}
+use Rattle.task_laws.proofs.legal.types.TaskTypes.{worth-here}
 
 -- ---- names stay
 

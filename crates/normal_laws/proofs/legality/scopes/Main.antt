@@ -16,16 +16,16 @@ use Rattle.syn_event.specs.DeclaredTasks.{decl_list, tasks_of}
 use Rattle.task_model.specs.Setting.{Setting}
 use Rattle.normal_model.specs.Names.{task_name}
 use Rattle.normal_model.specs.NormalTree.{first_decls, tasks_beside, task_declared, bodies_of, main_unit, main_variables, normal_decls}
-use Rattle.legal_programs.specs.rewritten_types.Rewriting.{NamesOnce}
-use Rattle.legal_programs.specs.rewritten_types.Laws.{behind}
-use Rattle.legal_programs.proofs.rewritten_types.Fresh.{first-here}
-use Rattle.legal_programs.proofs.rewritten_types.Refused.{declared_once}
-use Rattle.legal_programs.proofs.rewritten_types.Adding.{names-main}
-use Rattle.legal_programs.proofs.rewritten_types.Soundness.{sound-decls, sound-first}
-use Rattle.legal_programs.proofs.rewritten_types.Owning.{whole-decls, whole-first}
-use Rattle.legal_programs.specs.rewritten_values.Values.{old_names}
-use Rattle.legal_programs.proofs.types.MainScopes.{AllStand, main-stands}
-use Rattle.legal_programs.proofs.types.TaskTypes.{AllRanges, all-ranges, tasks-have-types}
+use Rattle.task_laws.specs.legal.rewritten_types.Rewriting.{NamesOnce}
+use Rattle.task_laws.specs.legal.rewritten_types.Laws.{behind}
+use Rattle.task_laws.proofs.legal.rewritten_types.Fresh.{first-here}
+use Rattle.task_laws.proofs.legal.rewritten_types.Refused.{declared_once}
+use Rattle.task_laws.proofs.legal.rewritten_types.Adding.{names-main}
+use Rattle.task_laws.proofs.legal.rewritten_types.Soundness.{sound-decls, sound-first}
+use Rattle.task_laws.proofs.legal.rewritten_types.Owning.{whole-decls, whole-first}
+use Rattle.task_laws.specs.legal.rewritten_values.Values.{old_names}
+use Rattle.task_laws.proofs.legal.types.MainScopes.{AllStand, main-stands}
+use Rattle.task_laws.proofs.legal.types.TaskTypes.{AllRanges, all-ranges, tasks-have-types}
 use Rattle.syn_event.proofs.Weaker.{placed_tokens}
 use Rattle.normal_laws.proofs.structure.types.Normal.{front-after}
 use Rattle.normal_laws.specs.runs.forms.Normalisable.{setting_for}
@@ -35,8 +35,8 @@ use Rattle.normal_laws.proofs.existence.units.DeclaredNames.{tasks-good}
 use Rattle.normal_laws.proofs.existence.units.TasksApart.{IsNamed, all-named, members-there, units-told}
 use Rattle.normal_laws.specs.structure.asked.Pieces.{IsAmong, first_among, later_among}
 use Rattle.normal_laws.specs.structure.typed.ScopeOf.{IsSeenWith, IsTaskThere}
-use Rattle.legal_programs.specs.alike_scopes.Alike.{Alike}
-use Rattle.legal_programs.proofs.alike_scopes.Naming.{inside-alike}
+use Rattle.task_laws.specs.legal.alike_scopes.Alike.{Alike}
+use Rattle.task_laws.proofs.legal.alike_scopes.Naming.{inside-alike}
 use Rattle.normal_laws.specs.legality.scopes.Plain.{plain_name}
 use Rattle.normal_laws.proofs.legality.scopes.Parts.{HasParts, parts-first, parts-decl}
 use Rattle.normal_laws.proofs.legality.scopes.Later.{AllEntries, all-entries}

@@ -17,12 +17,12 @@ use Rattle.ada_static_rules.specs.StaticValue.{mark_named}
 use Rattle.ada_static_rules.specs.ExprTypes.{static_in}
 use Rattle.ada_static_rules.specs.Declaring.{predefined_types, before_all, first_scope, in_body, with_name, with_types, add_kind, made, made_subind, drange_range, made_array, type_of_mark, renamed, after_decl, after_decls}
 use Rattle.ada_static_rules.specs.RuleDuplicate.{is_predefined}
-use Rattle.legal_programs.specs.rewritten_types.Rewriting.{names_declared, IsUnused, DeclareOnce}
-use Rattle.legal_programs.proofs.rewritten_types.Adding.{names-types, keeps-subind, keeps-objects}
-use Rattle.legal_programs.proofs.rewritten_types.Unmarked.{other-mark, add-marks, no-type, object-marks}
-use Rattle.legal_programs.proofs.rewritten_types.Fresh.{InHere, first-here, here-decl}
-use Rattle.legal_programs.proofs.literals.Apart.{IsNoneOf, names-apart}
-use Rattle.legal_programs.proofs.types.MainScopes.{AllStand, last-stands}
+use Rattle.task_laws.specs.legal.rewritten_types.Rewriting.{names_declared, IsUnused, DeclareOnce}
+use Rattle.task_laws.proofs.legal.rewritten_types.Adding.{names-types, keeps-subind, keeps-objects}
+use Rattle.task_laws.proofs.legal.rewritten_types.Unmarked.{other-mark, add-marks, no-type, object-marks}
+use Rattle.task_laws.proofs.legal.rewritten_types.Fresh.{InHere, first-here, here-decl}
+use Rattle.task_laws.proofs.legal.literals.Apart.{IsNoneOf, names-apart}
+use Rattle.task_laws.proofs.legal.types.MainScopes.{AllStand, last-stands}
 use Rattle.normal_laws.specs.existence.Laws.{IsLegalOriginal}
 use Rattle.normal_laws.proofs.existence.seen_tasks.Scopes.{is_one_of, meaning-out}
 use Rattle.normal_laws.proofs.legality.scopes.Later.{decl-kept}

@@ -24,12 +24,12 @@ use Rattle.ada_value.specs.declared.values.Raised.{Raised}
 use Rattle.ada_value.specs.Values.{limits_named}
 use Rattle.syn_event.specs.DeclaredTasks.{decl_list, tasks_in}
 use Rattle.normal_model.specs.Calls.{Slot, slots_of}
-use Rattle.legal_programs.specs.sites.Met.{IsMet}
-use Rattle.legal_programs.proofs.sites.Around.{test-holds}
-use Rattle.legal_programs.proofs.types.ExprKinds.{IsScalarMark, scalar-mark}
-use Rattle.legal_programs.proofs.types.StaticParts.{drange-met}
-use Rattle.legal_programs.proofs.types.MainScopes.{Stands, AllStand}
-use Rattle.legal_programs.proofs.types.TaskTypes.{IsRangeHere, limits-here}
+use Rattle.task_laws.specs.legal.sites.Met.{IsMet}
+use Rattle.task_laws.proofs.legal.sites.Around.{test-holds}
+use Rattle.task_laws.proofs.legal.types.ExprKinds.{IsScalarMark, scalar-mark}
+use Rattle.task_laws.proofs.legal.types.StaticParts.{drange-met}
+use Rattle.task_laws.proofs.legal.types.MainScopes.{Stands, AllStand}
+use Rattle.task_laws.proofs.legal.types.TaskTypes.{IsRangeHere, limits-here}
 use Rattle.normal_laws.specs.structure.typed.ScopeOf.{IsRange, AreSlots}
 use Rattle.normal_laws.proofs.legality.scopes.Later.{AllEntries}
 use Rattle.normal_laws.proofs.legality.scopes.Seeing.{entries_in}

@@ -14,7 +14,7 @@ use Rattle.syn_event.specs.RuleReservedName.{has_mark, is_reserved}
 use Rattle.task_model.specs.Setting.{Setting}
 use Rattle.normal_model.specs.Names.{name_of_member, member_texts, variable_text, with_members, normal_names, variable_name, task_name}
 use Rattle.normal_model.proofs.VariablesLemmas.{Begins}
-use Rattle.legal_programs.proofs.rewritten_values.Saying.{place-within}
+use Rattle.task_laws.proofs.legal.rewritten_values.Saying.{place-within}
 use Rattle.normal_laws.specs.structure.types.Own.{own_name}
 use Rattle.normal_laws.proofs.structure.types.Names.{variables-begin, added_names_are_new, variable-there, fold-begins}
 use Rattle.normal_laws.proofs.existence.units.TaskNames.{member-reserved}

@@ -4,7 +4,7 @@ use Rattle.ada_tree.specs.declared.naming.NameId.{NameId}
 use Rattle.ada_tree.specs.PlainExpr.{PExpr, EInteger, EName, EIndex, EAttribute, EAttributeOf, EParen, EUnary, EBinary, PBounds, PSubind, PDrange, RGiven, RMarked}
 use Rattle.ada_tree.specs.PlainDecl.{PShape, OPlain, OArray, PDecl, DNumber, DObject, DEnumeration, DArray, DSubtype, DException, DIntIo, DPragma, DTask, DTaskBody, PDecls, no_decl, decl_then}
 use Rattle.ada_tree.specs.Every.{Rules, EveryExpr, EveryBounds, EverySubind, EveryDrange, EveryShape, EveryDecl, EveryDecls}
-use Rattle.legal_programs.specs.alike_scopes.Old.{IsOldExpr, IsOldBounds, IsOldSubind, IsOldDrange, IsOldShape, IsOldObject, AreOldObjects}
+use Rattle.task_laws.specs.legal.alike_scopes.Old.{IsOldExpr, IsOldBounds, IsOldSubind, IsOldDrange, IsOldShape, IsOldObject, AreOldObjects}
 
 module _ (rules : Rules) (old : ℕ → Bool) (names : (id : NameId) → rules.name id → old id.0 ≡ true) where
   pub old-expr : (e : PExpr) (k : ℕ) → EveryExpr rules k e → IsOldExpr old e

@@ -22,11 +22,11 @@ use Rattle.normal_model.specs.Names.{variable_name, member_name, task_name}
 use Rattle.normal_model.specs.Variables.{variable_declared}
 use Rattle.normal_model.specs.NormalTree.{tasks_beside}
 use Rattle.normal_laws.specs.structure.asked.Pieces.{IsAmong}
-use Rattle.legal_programs.proofs.rewritten_types.Adding.{names-main}
-use Rattle.legal_programs.specs.rewritten_values.Values.{old_names}
-use Rattle.legal_programs.specs.sites.Met.{IsMet}
-use Rattle.legal_programs.proofs.types.GoodScopes.{names-kept}
-use Rattle.legal_programs.proofs.types.InnerScopes.{IsApartLocal, AreApart}
+use Rattle.task_laws.proofs.legal.rewritten_types.Adding.{names-main}
+use Rattle.task_laws.specs.legal.rewritten_values.Values.{old_names}
+use Rattle.task_laws.specs.legal.sites.Met.{IsMet}
+use Rattle.task_laws.proofs.legal.types.GoodScopes.{names-kept}
+use Rattle.task_laws.proofs.legal.types.InnerScopes.{IsApartLocal, AreApart}
 use Rattle.normal_laws.proofs.existence.seen_tasks.Scopes.{is_one_of, meaning-out, meaning-in, IsNoTask, inner-object}
 use Rattle.normal_laws.specs.structure.typed.ScopeOf.{IsSeenWith, IsInnerName, IsInner}
 use Rattle.normal_laws.proofs.structure.typed.Scopes.{differ, once-new}

@@ -11,13 +11,13 @@ use Rattle.ada_tree.specs.PlainDecl.{PShape, OPlain, OArray, PInit, PDecl, DNumb
 use Rattle.ada_static_rules.specs.Scope.{Scope, Range, Thing, TypeMark, TaskType, SingleTask, TaskObject, TaskArray, Variable, ConstantObject, Parameter, LoopParameter, Literal, AnException, MainProcedure, AnotherUnit, Unclear, Marking, ScalarMark, ArrayMark, TaskMark, NoMark, UnknownMark, UnclearMark, kind_at, mark_at, marking_of_kind, marking_of_mark, marking_of, marking, meaning, range_of_mark, and_then}
 use Rattle.ada_static_rules.specs.ExprTypes.{static_in, range_between, static_range}
 use Rattle.ada_static_rules.specs.Declaring.{predefined_types, mark_for, with_name, with_names, with_types, add_mark, add_kind, Made, made_range, subind_made, made_subind, drange_range, made_array, plain_object, array_object, declared_object, add_constants, with_constants, constant_mark, constant_value, after_object, renamed, in_body, after_own_object, after_objects, after_decl}
-use Rattle.legal_programs.specs.rewritten_types.Agreement.{scalar_only, IsScalar, Grows}
-use Rattle.legal_programs.proofs.rewritten_types.Lookups.{earlier-or-last}
+use Rattle.task_laws.specs.legal.rewritten_types.Agreement.{scalar_only, IsScalar, Grows}
+use Rattle.task_laws.proofs.legal.rewritten_types.Lookups.{earlier-or-last}
 use Rattle.common_lemmas.proofs.Lists.{last_at}
 use Rattle.common_lemmas.proofs.Options.{some_same, not_missing}
-use Rattle.legal_programs.proofs.rewritten_types.Keeping.{grows-mark, grows-kind}
-use Rattle.legal_programs.proofs.rewritten_types.Adding.{names-types}
-use Rattle.legal_programs.proofs.types.FirmTables.{scalar-grown}
+use Rattle.task_laws.proofs.legal.rewritten_types.Keeping.{grows-mark, grows-kind}
+use Rattle.task_laws.proofs.legal.rewritten_types.Adding.{names-types}
+use Rattle.task_laws.proofs.legal.types.FirmTables.{scalar-grown}
 
 -- ---- tables
 

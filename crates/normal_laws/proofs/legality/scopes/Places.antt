@@ -6,9 +6,9 @@ use Rattle.ada_tree.specs.PlainDecl.{PDecls, DTaskBody, no_decl, decl_then}
 use Rattle.ada_static_rules.specs.Scope.{Scope, Thing, meaning}
 use Rattle.ada_static_rules.specs.Declaring.{after_decl}
 use Rattle.syn_event.specs.NamedTasks.{NamedTasks}
-use Rattle.legal_programs.specs.rewritten_types.Agreement.{Keeps}
-use Rattle.legal_programs.proofs.types.ExprKinds.{IsClearThing}
-use Rattle.legal_programs.proofs.types.TypedValues.{anybody}
+use Rattle.task_laws.specs.legal.rewritten_types.Agreement.{Keeps}
+use Rattle.task_laws.proofs.legal.types.ExprKinds.{IsClearThing}
+use Rattle.task_laws.proofs.legal.types.TypedValues.{anybody}
 use Rattle.normal_laws.proofs.legality.scopes.Kept.{AreKept}
 use Rattle.normal_laws.proofs.legality.scopes.Seeing.{IsPartSeen, IsPartHidden}
 

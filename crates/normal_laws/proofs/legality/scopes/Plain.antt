@@ -14,7 +14,7 @@ use Rattle.ada_tree.specs.PlainProgram.{PProgram}
 use Rattle.ada_static_rules.specs.Scope.{Scope, Thing, meaning}
 use Rattle.ada_static_rules.specs.Declaring.{first_scope, with_name, with_names, after_decl, after_decls}
 use Rattle.ada_static_rules.specs.RuleDuplicate.{is_predefined, is_among}
-use Rattle.legal_programs.proofs.rewritten_types.Fresh.{InHere, first-here, here-decl, meaning-used}
+use Rattle.task_laws.proofs.legal.rewritten_types.Fresh.{InHere, first-here, here-decl, meaning-used}
 use Rattle.ada_tree.specs.Every.{Rules, no_rules, EveryDecl, EveryDecls, EveryProgram}
 use Rattle.ada_tree.specs.WellPlaced.{IsWellPlaced}
 use Rattle.ada_static_rules.specs.Sites.{sites}
@@ -23,11 +23,11 @@ use Rattle.syn_event.specs.declared.numbering.Mode.TheVariants.{Original}
 use Rattle.syn_event.specs.CheckRefusals.{MeetsCheckRules}
 use Rattle.syn_event.specs.DeclaredTasks.{text_of}
 use Rattle.syn_event.specs.RuleReservedName.{is_reserved}
-use Rattle.legal_programs.proofs.rewritten_types.Lookups.{place-all}
-use Rattle.legal_programs.specs.rewritten_values.Values.{old_names}
+use Rattle.task_laws.proofs.legal.rewritten_types.Lookups.{place-all}
+use Rattle.task_laws.specs.legal.rewritten_values.Values.{old_names}
 use Rattle.normal_laws.specs.structure.types.Own.{own_name}
-use Rattle.legal_programs.specs.sites.Met.{IsAddressed}
-use Rattle.legal_programs.proofs.sites.NamedDecls.{all_are_named}
+use Rattle.task_laws.specs.legal.sites.Met.{IsAddressed}
+use Rattle.task_laws.proofs.legal.sites.NamedDecls.{all_are_named}
 use Rattle.normal_laws.proofs.existence.units.Own.{names-together, program-own, first-text}
 use Rattle.normal_laws.specs.legality.scopes.Plain.{plain_name}
 

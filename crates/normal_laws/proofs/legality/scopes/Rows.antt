@@ -12,9 +12,9 @@ use Rattle.ada_tree.specs.PlainDecl.{PShape, OPlain, OArray, PInit, PTask, PDecl
 use Rattle.ada_static_rules.specs.Scope.{Scope, Range, Marking, ScalarMark, ArrayMark, TaskMark, NoMark, UnknownMark, UnclearMark, Thing, TaskArray, EntryPart, meaning, marking}
 use Rattle.ada_static_rules.specs.Declaring.{with_types, with_constants, drange_range, task_array, made_subind, made_array, object_meaning, array_object, declared_object, after_decl, after_decls}
 use Rattle.syn_event.specs.NamedTasks.{NamedTasks, task_names_of_type, type_named, with_type, object_task_names, single_task_name, task_names_in}
-use Rattle.legal_programs.specs.rewritten_types.Rewriting.{DeclareOnce}
-use Rattle.legal_programs.proofs.rewritten_types.Fresh.{InHere, here-decl}
-use Rattle.legal_programs.proofs.types.TaskTypes.{IsRangeHere, DeclRanges, AllRanges}
+use Rattle.task_laws.specs.legal.rewritten_types.Rewriting.{DeclareOnce}
+use Rattle.task_laws.proofs.legal.rewritten_types.Fresh.{InHere, here-decl}
+use Rattle.task_laws.proofs.legal.types.TaskTypes.{IsRangeHere, DeclRanges, AllRanges}
 use Rattle.normal_laws.specs.structure.typed.ScopeOf.{IsRange}
 use Rattle.normal_laws.proofs.legality.scopes.Later.{decls-kept}
 use Rattle.normal_laws.proofs.legality.scopes.Seeing.{all-mean}

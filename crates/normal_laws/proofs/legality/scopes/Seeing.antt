@@ -16,11 +16,11 @@ use Rattle.ada_static_rules.specs.Scope.{Scope, Thing, TaskType, SingleTask, Tas
 use Rattle.ada_static_rules.specs.Declaring.{entry_part, task_thing, task_object, task_array, drange_range, plain_object, array_object, declared_object, with_constants, with_types, with_name, with_names, after_decl}
 use Rattle.syn_event.specs.NamedTasks.{NamedTasks, type_named, with_type, task_names_of_type, object_task_names, single_task_name, task_names_in}
 use Rattle.normal_model.specs.NormalTree.{mark_of}
-use Rattle.legal_programs.specs.rewritten_types.Rewriting.{IsUnused, names_declared, DeclareOnce}
-use Rattle.legal_programs.proofs.rewritten_types.Lookups.{find-all}
-use Rattle.legal_programs.proofs.rewritten_types.Fresh.{InHere, here-decl}
-use Rattle.legal_programs.proofs.types.GoodScopes.{IsIn, names-new}
-use Rattle.legal_programs.proofs.types.TaskTypes.{DeclRanges}
+use Rattle.task_laws.specs.legal.rewritten_types.Rewriting.{IsUnused, names_declared, DeclareOnce}
+use Rattle.task_laws.proofs.legal.rewritten_types.Lookups.{find-all}
+use Rattle.task_laws.proofs.legal.rewritten_types.Fresh.{InHere, here-decl}
+use Rattle.task_laws.proofs.legal.types.GoodScopes.{IsIn, names-new}
+use Rattle.task_laws.proofs.legal.types.TaskTypes.{DeclRanges}
 use Rattle.normal_laws.proofs.legality.scopes.Later.{decl-kept, DeclEntries}
 
 -- ---- entries

@@ -27,24 +27,24 @@ use Rattle.normal_model.specs.Names.{variable_name, task_name}
 use Rattle.normal_model.specs.Ranges.{word_at}
 use Rattle.normal_model.specs.NormalStmts.{unit_variables}
 use Rattle.normal_model.specs.NormalTree.{decls_front, tasks_beside, running, unit_for, main_unit, first_decls, task_declared, bodies_of, main_variables}
-use Rattle.legal_programs.specs.rewritten_types.Agreement.{Grows}
-use Rattle.legal_programs.proofs.rewritten_types.Fresh.{first-here}
-use Rattle.legal_programs.proofs.rewritten_types.Keeping.{grows-on, keeps-self}
-use Rattle.legal_programs.proofs.rewritten_types.Adding.{keeps-objects}
-use Rattle.legal_programs.specs.rewritten_values.Values.{old_names}
-use Rattle.legal_programs.specs.sites.Met.{IsMet}
-use Rattle.legal_programs.proofs.sites.Meeting.{all_met}
+use Rattle.task_laws.specs.legal.rewritten_types.Agreement.{Grows}
+use Rattle.task_laws.proofs.legal.rewritten_types.Fresh.{first-here}
+use Rattle.task_laws.proofs.legal.rewritten_types.Keeping.{grows-on, keeps-self}
+use Rattle.task_laws.proofs.legal.rewritten_types.Adding.{keeps-objects}
+use Rattle.task_laws.specs.legal.rewritten_values.Values.{old_names}
+use Rattle.task_laws.specs.legal.sites.Met.{IsMet}
+use Rattle.task_laws.proofs.legal.sites.Meeting.{all_met}
 use Rattle.normal_laws.proofs.existence.units.Apart.{all-apart}
 use Rattle.normal_laws.proofs.legality.asked.Inner.{inner-names}
-use Rattle.legal_programs.proofs.types.MainScopes.{grows-decls}
-use Rattle.legal_programs.proofs.types.InnerScopes.{IsApartLocal, AreApart}
+use Rattle.task_laws.proofs.legal.types.MainScopes.{grows-decls}
+use Rattle.task_laws.proofs.legal.types.InnerScopes.{IsApartLocal, AreApart}
 use Rattle.normal_laws.proofs.structure.types.Normal.{front-after}
 use Rattle.normal_laws.proofs.structure.types.Variables.{unit-all, unit-new, are-added}
 use Rattle.normal_laws.specs.existence.Laws.{IsLegalOriginal}
 use Rattle.normal_laws.specs.structure.asked.Pieces.{IsAmong, first_among, later_among}
 use Rattle.normal_laws.specs.structure.typed.ScopeOf.{IsTaskThere, IsEntryOf, IsArrayOf, IsLiteralOf, MeansLiteral, MeansInteger, IsInner}
-use Rattle.legal_programs.specs.alike_scopes.Alike.{Alike}
-use Rattle.legal_programs.proofs.alike_scopes.Tables.{types-kept}
+use Rattle.task_laws.specs.legal.alike_scopes.Alike.{Alike}
+use Rattle.task_laws.proofs.legal.alike_scopes.Tables.{types-kept}
 use Rattle.normal_laws.specs.legality.scopes.Plain.{plain_name}
 use Rattle.normal_laws.proofs.legality.scopes.Seeing.{HasEntries, entries_in}
 use Rattle.normal_laws.proofs.legality.scopes.Places.{AtBodies, IsPlaced}

@@ -16,16 +16,16 @@ use Rattle.ada_static_rules.specs.Declaring.{object_meaning, mark_for, made_rang
 use Rattle.ada_value.specs.declared.values.Limits.{Limits}
 use Rattle.ada_value.specs.Values.{and_then, limits_of, limits_or, limits_named}
 use Rattle.ada_static_rules.specs.ExprTypes.{static_range}
-use Rattle.legal_programs.proofs.types.TaskTypes.{IsRangeHere}
+use Rattle.task_laws.proofs.legal.types.TaskTypes.{IsRangeHere}
 use Rattle.ada_value.specs.Evaluating.{range_of}
 use Rattle.normal_model.specs.Ranges.{marked}
-use Rattle.legal_programs.specs.rewritten_types.Agreement.{IsScalar}
-use Rattle.legal_programs.specs.types.Typed.{IsScalarName}
+use Rattle.task_laws.specs.legal.rewritten_types.Agreement.{IsScalar}
+use Rattle.task_laws.specs.legal.types.Typed.{IsScalarName}
 use Rattle.normal_laws.specs.existence.Laws.{IsLegalOriginal}
-use Rattle.legal_programs.specs.alike_scopes.Alike.{SameNames}
-use Rattle.legal_programs.specs.alike_scopes.Old.{IsOldSubind}
-use Rattle.legal_programs.proofs.alike_scopes.Marks.{values-marking}
-use Rattle.legal_programs.proofs.alike_scopes.Objects.{SameMade, made_both, made_neither, made-same}
+use Rattle.task_laws.specs.legal.alike_scopes.Alike.{SameNames}
+use Rattle.task_laws.specs.legal.alike_scopes.Old.{IsOldSubind}
+use Rattle.task_laws.proofs.legal.alike_scopes.Marks.{values-marking}
+use Rattle.task_laws.proofs.legal.alike_scopes.Objects.{SameMade, made_both, made_neither, made-same}
 use Rattle.normal_laws.proofs.legality.scopes.Main.{last}
 use Rattle.normal_laws.proofs.legality.scopes.Marked.{IsTypeOf, named-means}
 

@@ -14,8 +14,8 @@ use Rattle.ada_static_rules.specs.Scope.{Scope, FormalPart}
 use Rattle.ada_static_rules.specs.Declaring.{family_of, entry_family, formal_parts, entry_part}
 use Rattle.syn_event.specs.DeclaredTasks.{tasks_in}
 use Rattle.normal_model.specs.NormalTree.{task_under, declared_under}
-use Rattle.legal_programs.specs.alike_scopes.Alike.{SameNames}
-use Rattle.legal_programs.proofs.alike_scopes.Exprs.{mark-kind-same, drange-same}
+use Rattle.task_laws.specs.legal.alike_scopes.Alike.{SameNames}
+use Rattle.task_laws.proofs.legal.alike_scopes.Exprs.{mark-kind-same, drange-same}
 use Rattle.normal_laws.proofs.legality.scopes.Olds.{old-drange}
 
 -- ---- the declaration of a task

@@ -6,9 +6,9 @@ use Rattle.ada_tree.specs.PlainDecl.{PTask, PDecl, DNumber, DObject, DEnumeratio
 use Rattle.ada_static_rules.specs.Scope.{Scope, EntryPart, meaning}
 use Rattle.ada_static_rules.specs.Declaring.{task_thing, after_decl}
 use Rattle.syn_event.specs.DeclaredTasks.{decl_list, tasks_in}
-use Rattle.legal_programs.specs.rewritten_types.Rewriting.{IsUnused, names_declared, DeclareOnce}
-use Rattle.legal_programs.proofs.rewritten_types.Fresh.{InHere, here-decl}
-use Rattle.legal_programs.proofs.types.GoodScopes.{names-new}
+use Rattle.task_laws.specs.legal.rewritten_types.Rewriting.{IsUnused, names_declared, DeclareOnce}
+use Rattle.task_laws.proofs.legal.rewritten_types.Fresh.{InHere, here-decl}
+use Rattle.task_laws.proofs.legal.types.GoodScopes.{names-new}
 use Rattle.normal_laws.proofs.legality.scopes.Later.{decl-kept, AllEntries}
 use Rattle.normal_laws.proofs.legality.scopes.Seeing.{entries_in, in-first, none-before}
 use Rattle.normal_laws.proofs.legality.scopes.Places.{AtBodies}

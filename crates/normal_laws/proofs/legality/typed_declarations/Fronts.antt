@@ -14,25 +14,25 @@ use Rattle.ada_static_rules.specs.Sites.{object_marking, decl_sites, decls_sites
 use Rattle.ada_static_rules.specs.Refusals.{types_in}
 use Rattle.ada_static_rules.specs.Declaring.{Declared, first_scope, declared_object, after_decl}
 use Rattle.syn_event.specs.NamedTasks.{NamedTasks, type_named, with_type, object_task_names, task_names_in, task_names_of}
-use Rattle.legal_programs.specs.rewritten_types.Agreement.{Keeps, Sound, WholeTable}
-use Rattle.legal_programs.specs.rewritten_types.Rewriting.{is_no_task, DeclareOnce}
-use Rattle.legal_programs.specs.rewritten_types.Rewriting as rewriting
-use Rattle.legal_programs.specs.rewritten_types.Laws.{behind}
-use Rattle.legal_programs.proofs.rewritten_types.Keeping.{keeps-self}
-use Rattle.legal_programs.proofs.rewritten_types.Fresh.{first-here}
-use Rattle.legal_programs.proofs.rewritten_types.Closing.{Close, close-self, drange-alike}
-use Rattle.legal_programs.proofs.rewritten_types.Soundness.{sound-decl, sound-first}
-use Rattle.legal_programs.proofs.rewritten_types.Owning.{whole-decls, whole-first}
-use Rattle.legal_programs.specs.sites.Met.{IsMet}
-use Rattle.legal_programs.proofs.types.TypedValues.{anybody}
-use Rattle.legal_programs.proofs.types.MainScopes.{Stands, AllStand}
-use Rattle.legal_programs.proofs.types.TaskTypes.{DeclRanges, AllRanges, all-ranges}
+use Rattle.task_laws.specs.legal.rewritten_types.Agreement.{Keeps, Sound, WholeTable}
+use Rattle.task_laws.specs.legal.rewritten_types.Rewriting.{is_no_task, DeclareOnce}
+use Rattle.task_laws.specs.legal.rewritten_types.Rewriting as rewriting
+use Rattle.task_laws.specs.legal.rewritten_types.Laws.{behind}
+use Rattle.task_laws.proofs.legal.rewritten_types.Keeping.{keeps-self}
+use Rattle.task_laws.proofs.legal.rewritten_types.Fresh.{first-here}
+use Rattle.task_laws.proofs.legal.rewritten_types.Closing.{Close, close-self, drange-alike}
+use Rattle.task_laws.proofs.legal.rewritten_types.Soundness.{sound-decl, sound-first}
+use Rattle.task_laws.proofs.legal.rewritten_types.Owning.{whole-decls, whole-first}
+use Rattle.task_laws.specs.legal.sites.Met.{IsMet}
+use Rattle.task_laws.proofs.legal.types.TypedValues.{anybody}
+use Rattle.task_laws.proofs.legal.types.MainScopes.{Stands, AllStand}
+use Rattle.task_laws.proofs.legal.types.TaskTypes.{DeclRanges, AllRanges, all-ranges}
 use Rattle.normal_model.specs.NormalTree.{mark_of, unless_left, first_decls}
 use Rattle.normal_laws.proofs.structure.once.TaskTypes.{first-types, no-task}
 use Rattle.normal_laws.specs.structure.checked.Around.{own_rules}
 use Rattle.normal_laws.specs.existence.Laws.{IsLegalOriginal}
-use Rattle.legal_programs.specs.alike_scopes.Alike.{Alike}
-use Rattle.legal_programs.specs.alike_scopes.Laws.{IsMetBut}
+use Rattle.task_laws.specs.legal.alike_scopes.Alike.{Alike}
+use Rattle.task_laws.specs.legal.alike_scopes.Laws.{IsMetBut}
 use Rattle.normal_laws.proofs.structure.typed.Places.{met-declares}
 use Rattle.normal_laws.proofs.structure.typed.Variables.{AllMetBut}
 use Rattle.normal_laws.proofs.structure.typed.Stays.{met-but}

@@ -13,12 +13,12 @@ use Rattle.task_model.specs.Setting.{Setting}
 use Rattle.normal_model.specs.NormalStmts.{normal_body}
 use Rattle.normal_model.specs.NormalTree.{decls_front, first_decls, tasks_beside, task_declared, bodies_of, main_unit, main_variables, normal_decls}
 use Rattle.normal_model.proofs.VariablesLemmas.{begins-refl}
-use Rattle.legal_programs.specs.rewritten_values.Values.{old_names}
+use Rattle.task_laws.specs.legal.rewritten_values.Values.{old_names}
 use Rattle.normal_laws.specs.runs.forms.Normalisable.{numbers_of, made_for}
 use Rattle.normal_laws.specs.structure.checked.Around.{own_rules}
 use Rattle.normal_laws.proofs.structure.checked.Owned.{own-together}
 use Rattle.normal_laws.specs.existence.Laws.{IsLegalOriginal}
-use Rattle.legal_programs.specs.alike_scopes.Laws.{IsMetBut}
+use Rattle.task_laws.specs.legal.alike_scopes.Laws.{IsMetBut}
 use Rattle.normal_laws.specs.structure.typed.ScopeOf.{IsScopeOf}
 use Rattle.normal_laws.proofs.structure.typed.Places.{met-declares}
 use Rattle.normal_laws.proofs.structure.typed.Variables.{AllMetBut}

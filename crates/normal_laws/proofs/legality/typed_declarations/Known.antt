@@ -17,13 +17,13 @@ use Rattle.ada_static_rules.specs.RuleMismatch.{is_allowed}
 use Rattle.ada_static_rules.specs.Sites.{site, if_there, names_sites, expr_sites, expr_of, static_of, drange_sites, mark_sites, formal_mark_sites, all_names, formals_sites, entry_sites, entries_sites, task_sites}
 use Rattle.ada_static_rules.specs.Declaring.{inner_scope, after_decl, after_decls}
 use Rattle.syn_event.specs.DeclaredTasks.{decl_list, tasks_in}
-use Rattle.legal_programs.specs.rewritten_types.Rewriting.{DeclareOnce}
-use Rattle.legal_programs.proofs.rewritten_types.Fresh.{InHere, here-decl}
-use Rattle.legal_programs.specs.sites.Met.{IsMet}
-use Rattle.legal_programs.proofs.sites.Around.{test-holds}
-use Rattle.legal_programs.proofs.types.ExprKinds.{IsScalarMark, scalar-mark}
-use Rattle.legal_programs.proofs.types.StaticParts.{IsStaticIn, AreBounds, HasSubtype, HasRange, met-static, of-kind, drange-met}
-use Rattle.legal_programs.proofs.types.MainScopes.{AllStand, grows-decls}
+use Rattle.task_laws.specs.legal.rewritten_types.Rewriting.{DeclareOnce}
+use Rattle.task_laws.proofs.legal.rewritten_types.Fresh.{InHere, here-decl}
+use Rattle.task_laws.specs.legal.sites.Met.{IsMet}
+use Rattle.task_laws.proofs.legal.sites.Around.{test-holds}
+use Rattle.task_laws.proofs.legal.types.ExprKinds.{IsScalarMark, scalar-mark}
+use Rattle.task_laws.proofs.legal.types.StaticParts.{IsStaticIn, AreBounds, HasSubtype, HasRange, met-static, of-kind, drange-met}
+use Rattle.task_laws.proofs.legal.types.MainScopes.{AllStand, grows-decls}
 use Rattle.normal_laws.proofs.legality.scopes.Later.{IsBefore, name-marks, static-grown, decls-kept}
 
 -- What is known of an entry and of a task at a scope.

@@ -17,22 +17,22 @@ use Rattle.ada_static_rules.specs.Scope.{Scope, NameMeaning, Thing, TypeMark, Sc
 use Rattle.ada_static_rules.specs.RuleDuplicate.{is_predefined, is_among}
 use Rattle.ada_static_rules.specs.Sites.{names_sites, decl_sites}
 use Rattle.ada_static_rules.specs.Declaring.{predefined_types, before_all, first_scope, seen_as, with_name, with_types, add_kind, made, after_decl, after_decls}
-use Rattle.legal_programs.specs.rewritten_types.Agreement.{scalar_only, Grows, Keeps, IsScalar, mark_of_kind, Sound}
-use Rattle.legal_programs.specs.rewritten_types.Rewriting.{names_declared, IsUnused, DeclareOnce}
-use Rattle.legal_programs.proofs.rewritten_types.Lookups.{find-only, earlier-or-last}
-use Rattle.legal_programs.proofs.rewritten_types.Keeping.{grows-on, grows-kind, grows-mark, keeps-self}
-use Rattle.legal_programs.proofs.rewritten_types.Adding.{names-types, keeps-decl}
-use Rattle.legal_programs.proofs.rewritten_types.Owning.{own-kept, nobody, all-new}
-use Rattle.legal_programs.proofs.rewritten_types.Soundness.{sound-decl, sound-first}
-use Rattle.legal_programs.proofs.rewritten_types.Fresh.{InHere, first-here, here-decl}
-use Rattle.legal_programs.specs.sites.Met.{IsMet}
-use Rattle.legal_programs.proofs.sites.Around.{test-fails}
-use Rattle.legal_programs.proofs.types.ExprKinds.{IsScalarMark}
-use Rattle.legal_programs.proofs.types.GoodScopes.{names-kept}
-use Rattle.legal_programs.proofs.types.MainScopes.{AllStand}
+use Rattle.task_laws.specs.legal.rewritten_types.Agreement.{scalar_only, Grows, Keeps, IsScalar, mark_of_kind, Sound}
+use Rattle.task_laws.specs.legal.rewritten_types.Rewriting.{names_declared, IsUnused, DeclareOnce}
+use Rattle.task_laws.proofs.legal.rewritten_types.Lookups.{find-only, earlier-or-last}
+use Rattle.task_laws.proofs.legal.rewritten_types.Keeping.{grows-on, grows-kind, grows-mark, keeps-self}
+use Rattle.task_laws.proofs.legal.rewritten_types.Adding.{names-types, keeps-decl}
+use Rattle.task_laws.proofs.legal.rewritten_types.Owning.{own-kept, nobody, all-new}
+use Rattle.task_laws.proofs.legal.rewritten_types.Soundness.{sound-decl, sound-first}
+use Rattle.task_laws.proofs.legal.rewritten_types.Fresh.{InHere, first-here, here-decl}
+use Rattle.task_laws.specs.legal.sites.Met.{IsMet}
+use Rattle.task_laws.proofs.legal.sites.Around.{test-fails}
+use Rattle.task_laws.proofs.legal.types.ExprKinds.{IsScalarMark}
+use Rattle.task_laws.proofs.legal.types.GoodScopes.{names-kept}
+use Rattle.task_laws.proofs.legal.types.MainScopes.{AllStand}
 use Rattle.normal_model.specs.Ranges.{kind_name}
 use Rattle.normal_laws.proofs.legality.scopes.Later.{decl-kept}
-use Rattle.legal_programs.proofs.rewritten_types.NamedKinds.{no-mark}
+use Rattle.task_laws.proofs.legal.rewritten_types.NamedKinds.{no-mark}
 
 -- The declared name of the kind in the table means its type in the scope.
 pub record IsMeantKind (T : TypeTable) (s : Scope) (k : ℕ) : Type 0 where

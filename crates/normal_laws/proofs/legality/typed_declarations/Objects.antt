@@ -6,8 +6,8 @@ use Rattle.ada_tree.specs.PlainDecl.{PShape, OPlain, OArray}
 use Rattle.ada_static_rules.specs.Scope.{Scope, Range, Marking, ScalarMark, ArrayMark, TaskMark, NoMark, UnknownMark, UnclearMark, marking, range_of_mark}
 use Rattle.ada_static_rules.specs.Sites.{is_task_object}
 use Rattle.ada_static_rules.specs.Declaring.{Made, of_made, made_array, object_meaning, task_object, task_array, drange_range, plain_object, array_object, declared_object}
-use Rattle.legal_programs.specs.rewritten_types.Rewriting.{is_no_task, mark_of}
-use Rattle.legal_programs.proofs.rewritten_types.Closing.{Close, typed, typed-alike, made-alike, drange-alike}
+use Rattle.task_laws.specs.legal.rewritten_types.Rewriting.{is_no_task, mark_of}
+use Rattle.task_laws.proofs.legal.rewritten_types.Closing.{Close, typed, typed-alike, made-alike, drange-alike}
 use Rattle.normal_laws.proofs.structure.typed.Declared.{SameInit, both_values, both_arrays, both_free}
 
 -- a mark asks the same as itself of an initial value

@@ -8,7 +8,7 @@ use Rattle.ada_tree.specs.PlainExpr.{PSubind, PDrange}
 use Rattle.ada_tree.specs.PlainDecl.{PShape, OPlain, OArray, PDecl, DNumber, DObject, DEnumeration, DArray, DSubtype, DException, DIntIo, DPragma, DTask, DTaskBody, PDecls, no_decl, decl_then}
 use Rattle.ada_static_rules.specs.Scope.{Scope, NameMeaning, Range, EntryPart, Thing, Parameter, AnException, Marking, ScalarMark, ArrayMark, TaskMark, NoMark, UnknownMark, UnclearMark, marking}
 use Rattle.ada_static_rules.specs.Declaring.{with_name, with_names, first_scope, object_meaning, task_object, task_array, plain_object, array_object, declared_object, type_of_mark, task_thing, after_own_object, after_objects, after_decl, after_decls}
-use Rattle.legal_programs.proofs.rewritten_types.Lookups.{find-all}
+use Rattle.task_laws.proofs.legal.rewritten_types.Lookups.{find-all}
 use Rattle.normal_laws.proofs.structure.typed.StaticMet.{NoneIsOut}
 
 abbrev pub IsNotOut : Thing → Type 0

@@ -12,11 +12,11 @@ use Rattle.ada_static_rules.specs.Scope.{Scope}
 use Rattle.ada_static_rules.specs.Sites.{if_there, names_sites, is_task_object, shape_sites, init_sites, object_marking, drange_sites}
 use Rattle.ada_static_rules.specs.Declaring.{declared_object, after_decl, after_decls}
 use Rattle.syn_event.specs.NamedTasks.{NamedTasks, type_named, with_type, task_names_of_type, object_task_names, single_task_name, task_names_in}
-use Rattle.legal_programs.specs.rewritten_types.Rewriting.{DeclareOnce}
-use Rattle.legal_programs.proofs.rewritten_types.Fresh.{InHere, here-decl}
-use Rattle.legal_programs.specs.sites.Met.{IsMet}
-use Rattle.legal_programs.proofs.types.StaticParts.{HasRange, drange-met}
-use Rattle.legal_programs.proofs.types.MainScopes.{AllStand, grows-decls}
+use Rattle.task_laws.specs.legal.rewritten_types.Rewriting.{DeclareOnce}
+use Rattle.task_laws.proofs.legal.rewritten_types.Fresh.{InHere, here-decl}
+use Rattle.task_laws.specs.legal.sites.Met.{IsMet}
+use Rattle.task_laws.proofs.legal.types.StaticParts.{HasRange, drange-met}
+use Rattle.task_laws.proofs.legal.types.MainScopes.{AllStand, grows-decls}
 use Rattle.normal_laws.proofs.legality.scopes.Later.{decls-kept}
 use Rattle.normal_laws.proofs.legality.typed_declarations.Known.{range-grown}
 

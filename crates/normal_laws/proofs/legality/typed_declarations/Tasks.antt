@@ -21,14 +21,14 @@ use Rattle.task_model.specs.Setting.{Setting}
 use Rattle.normal_model.specs.Names.{task_name}
 use Rattle.normal_model.specs.Ranges.{word_at}
 use Rattle.normal_model.specs.NormalTree.{tasks_beside, task_under, task_declared}
-use Rattle.legal_programs.proofs.rewritten_types.Fresh.{first-here}
-use Rattle.legal_programs.proofs.types.ExprKinds.{IsScalarMark}
-use Rattle.legal_programs.proofs.types.StaticParts.{IsStaticIn, HasRange}
+use Rattle.task_laws.proofs.legal.rewritten_types.Fresh.{first-here}
+use Rattle.task_laws.proofs.legal.types.ExprKinds.{IsScalarMark}
+use Rattle.task_laws.proofs.legal.types.StaticParts.{IsStaticIn, HasRange}
 use Rattle.normal_laws.proofs.existence.variable_types.Subtypes.{tasks-every}
 use Rattle.normal_laws.specs.structure.checked.Around.{own_rules}
 use Rattle.normal_laws.specs.existence.Laws.{IsLegalOriginal}
-use Rattle.legal_programs.specs.alike_scopes.Alike.{Alike}
-use Rattle.legal_programs.specs.alike_scopes.Laws.{IsMetBut}
+use Rattle.task_laws.specs.legal.alike_scopes.Alike.{Alike}
+use Rattle.task_laws.specs.legal.alike_scopes.Laws.{IsMetBut}
 use Rattle.normal_laws.proofs.structure.typed.Variables.{AllMetBut, words-met}
 use Rattle.normal_laws.proofs.structure.typed.Places.{met-declares}
 use Rattle.normal_laws.proofs.structure.typed.Stays.{old-expr, old-drange, old-formals, static-stays, drange-stays, formals-stay}

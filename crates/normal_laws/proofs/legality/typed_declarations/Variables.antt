@@ -36,23 +36,23 @@ use Rattle.normal_model.specs.Names.{variable_name}
 use Rattle.normal_model.specs.Ranges.{word_at, marked, kind_of_range, kind_name, range_subtype, integer_subtype, truth_subtype, subtype_of_range, array_range, range_of_info, family_range}
 use Rattle.normal_model.specs.Variables.{variable_declared}
 use Rattle.normal_model.specs.NormalTree.{main_variables}
-use Rattle.legal_programs.specs.rewritten_types.Agreement.{IsScalar, Grows}
-use Rattle.legal_programs.specs.rewritten_types.Rewriting.{is_no_task}
-use Rattle.legal_programs.proofs.rewritten_types.Fresh.{first-here}
-use Rattle.legal_programs.proofs.rewritten_types.Lookups.{find-all}
-use Rattle.legal_programs.specs.types.Typed.{IsTypedTask, IsFirstTask}
-use Rattle.legal_programs.proofs.types.ExprKinds.{IsScalarMark}
-use Rattle.legal_programs.proofs.types.StaticParts.{AreBounds, HasSubtype, HasRange}
-use Rattle.legal_programs.proofs.types.GoodScopes.{names-kept}
-use Rattle.legal_programs.proofs.types.MainScopes.{StandsWhole, last-stands, grows-decls}
-use Rattle.legal_programs.proofs.types.TaskTypes.{IsRangeHere, limits-here, part-units, tasks-have-types}
+use Rattle.task_laws.specs.legal.rewritten_types.Agreement.{IsScalar, Grows}
+use Rattle.task_laws.specs.legal.rewritten_types.Rewriting.{is_no_task}
+use Rattle.task_laws.proofs.legal.rewritten_types.Fresh.{first-here}
+use Rattle.task_laws.proofs.legal.rewritten_types.Lookups.{find-all}
+use Rattle.task_laws.specs.legal.types.Typed.{IsTypedTask, IsFirstTask}
+use Rattle.task_laws.proofs.legal.types.ExprKinds.{IsScalarMark}
+use Rattle.task_laws.proofs.legal.types.StaticParts.{AreBounds, HasSubtype, HasRange}
+use Rattle.task_laws.proofs.legal.types.GoodScopes.{names-kept}
+use Rattle.task_laws.proofs.legal.types.MainScopes.{StandsWhole, last-stands, grows-decls}
+use Rattle.task_laws.proofs.legal.types.TaskTypes.{IsRangeHere, limits-here, part-units, tasks-have-types}
 use Rattle.normal_laws.proofs.existence.variable_types.Numbers.{EntryRule, IsRuled, IsEntryOf, entry-of, formals-are, range-is}
 use Rattle.normal_laws.proofs.existence.variable_types.Subtypes.{tasks-every}
 use Rattle.normal_laws.specs.structure.checked.Around.{own_rules}
 use Rattle.normal_laws.specs.existence.Laws.{IsLegalOriginal}
-use Rattle.legal_programs.specs.alike_scopes.Alike.{Alike}
-use Rattle.legal_programs.specs.alike_scopes.Old.{IsOldSubind, allows_task}
-use Rattle.legal_programs.specs.alike_scopes.Laws.{IsMetBut}
+use Rattle.task_laws.specs.legal.alike_scopes.Alike.{Alike}
+use Rattle.task_laws.specs.legal.alike_scopes.Old.{IsOldSubind, allows_task}
+use Rattle.task_laws.specs.legal.alike_scopes.Laws.{IsMetBut}
 use Rattle.normal_laws.proofs.structure.typed.Variables.{AllMetBut, words-met}
 use Rattle.normal_laws.proofs.structure.typed.Stays.{old-bounds, old-subind, subind-stays}
 use Rattle.normal_laws.proofs.structure.typed.StaticMet.{NoneIsOut, subind-is-met}

@@ -24,11 +24,11 @@ use Rattle.normal_model.specs.Variables.{variable_declared}
 use Rattle.normal_model.specs.NormalStmts.{unit_variables, normal_body}
 use Rattle.normal_model.specs.NormalTree.{decls_front, tasks_beside, running, unit_for, body_copy, bodies_of}
 use Rattle.normal_model.proofs.VariablesLemmas.{begins-refl}
-use Rattle.legal_programs.proofs.rewritten_types.Keeping.{grows-self}
-use Rattle.legal_programs.specs.sites.Met.{IsMet}
-use Rattle.legal_programs.proofs.sites.Meeting.{all_met}
-use Rattle.legal_programs.proofs.types.StaticParts.{HasSubtype}
-use Rattle.legal_programs.proofs.types.MainScopes.{last-stands}
+use Rattle.task_laws.proofs.legal.rewritten_types.Keeping.{grows-self}
+use Rattle.task_laws.specs.legal.sites.Met.{IsMet}
+use Rattle.task_laws.proofs.legal.sites.Meeting.{all_met}
+use Rattle.task_laws.proofs.legal.types.StaticParts.{HasSubtype}
+use Rattle.task_laws.proofs.legal.types.MainScopes.{last-stands}
 use Rattle.normal_laws.specs.runs.forms.Normalisable.{numbers_of, made_for}
 use Rattle.normal_laws.proofs.structure.placed.Added.{AreVariablesFrom}
 use Rattle.normal_laws.proofs.structure.placed.Whole.{each-of}
@@ -37,8 +37,8 @@ use Rattle.normal_laws.specs.existence.Laws.{IsLegalOriginal}
 use Rattle.normal_laws.proofs.legality.asked.KnownKinds.{known-kinds}
 use Rattle.normal_laws.proofs.legality.asked.Bodies.{BodiesAsked, bodies-asked}
 use Rattle.normal_laws.specs.structure.asked.Pieces.{IsAmong, first_among, later_among}
-use Rattle.legal_programs.specs.alike_scopes.Alike.{Alike}
-use Rattle.legal_programs.specs.alike_scopes.Laws.{IsMetBut}
+use Rattle.task_laws.specs.legal.alike_scopes.Alike.{Alike}
+use Rattle.task_laws.specs.legal.alike_scopes.Laws.{IsMetBut}
 use Rattle.normal_laws.specs.structure.typed.ScopeOf.{IsScopeOf}
 use Rattle.normal_laws.proofs.structure.typed.Variables.{AllMetBut}
 use Rattle.normal_laws.proofs.structure.typed.Stays.{met-but}

@@ -27,17 +27,17 @@ use Rattle.normal_model.specs.Names.{variable_name, task_name}
 use Rattle.normal_model.specs.Ranges.{word_at}
 use Rattle.normal_model.specs.NormalStmts.{unit_variables}
 use Rattle.normal_model.specs.NormalTree.{decls_front, first_decls, tasks_beside, task_declared, bodies_of, running, unit_for, main_unit, main_variables}
-use Rattle.legal_programs.specs.rewritten_types.Agreement.{Keeps}
-use Rattle.legal_programs.specs.rewritten_types.Rewriting.{IsAdded}
-use Rattle.legal_programs.proofs.rewritten_types.Keeping.{grows-self, keeps-self}
-use Rattle.legal_programs.proofs.rewritten_types.Adding.{keeps-objects, keeps-decls}
-use Rattle.legal_programs.proofs.rewritten_types.Soundness.{sound-decls, sound-first}
-use Rattle.legal_programs.proofs.rewritten_types.Owning.{whole-decls, whole-first}
-use Rattle.legal_programs.specs.rewritten_values.Values.{old_names}
-use Rattle.legal_programs.specs.sites.Met.{IsMet}
-use Rattle.legal_programs.proofs.sites.Meeting.{all_met}
-use Rattle.legal_programs.proofs.types.TypedValues.{anybody}
-use Rattle.legal_programs.proofs.types.InnerScopes.{IsApartLocal}
+use Rattle.task_laws.specs.legal.rewritten_types.Agreement.{Keeps}
+use Rattle.task_laws.specs.legal.rewritten_types.Rewriting.{IsAdded}
+use Rattle.task_laws.proofs.legal.rewritten_types.Keeping.{grows-self, keeps-self}
+use Rattle.task_laws.proofs.legal.rewritten_types.Adding.{keeps-objects, keeps-decls}
+use Rattle.task_laws.proofs.legal.rewritten_types.Soundness.{sound-decls, sound-first}
+use Rattle.task_laws.proofs.legal.rewritten_types.Owning.{whole-decls, whole-first}
+use Rattle.task_laws.specs.legal.rewritten_values.Values.{old_names}
+use Rattle.task_laws.specs.legal.sites.Met.{IsMet}
+use Rattle.task_laws.proofs.legal.sites.Meeting.{all_met}
+use Rattle.task_laws.proofs.legal.types.TypedValues.{anybody}
+use Rattle.task_laws.proofs.legal.types.InnerScopes.{IsApartLocal}
 use Rattle.normal_laws.proofs.structure.types.Normal.{front-after}
 use Rattle.normal_laws.proofs.structure.types.Variables.{are-added, task-added, tasks-only, bodies-only}
 use Rattle.normal_laws.specs.existence.Laws.{IsLegalOriginal}
@@ -48,9 +48,9 @@ use Rattle.normal_laws.proofs.existence.units.Apart.{all-apart}
 use Rattle.normal_laws.proofs.existence.units.TasksApart.{IsNamed}
 use Rattle.normal_laws.specs.structure.asked.Pieces.{IsAmong, IsVariable}
 use Rattle.normal_laws.specs.structure.typed.ScopeOf.{IsInner, IsScopeOf}
-use Rattle.legal_programs.specs.alike_scopes.Alike.{SameTypes, SameThing}
-use Rattle.legal_programs.proofs.alike_scopes.Tables.{types-kept, rooted_is_same}
-use Rattle.legal_programs.proofs.alike_scopes.Marks.{thing-grown}
+use Rattle.task_laws.specs.legal.alike_scopes.Alike.{SameTypes, SameThing}
+use Rattle.task_laws.proofs.legal.alike_scopes.Tables.{types-kept, rooted_is_same}
+use Rattle.task_laws.proofs.legal.alike_scopes.Marks.{thing-grown}
 use Rattle.normal_laws.specs.legality.scopes.Plain.{plain_name}
 use Rattle.normal_laws.proofs.legality.scopes.Names.{variable-new, variable-task}
 use Rattle.normal_laws.proofs.legality.scopes.Formed.{tasks-other}

@@ -7,9 +7,9 @@ use Rattle.ada_tree.specs.Attributes.{attribute_of, is_bound}
 use Rattle.ada_tree.specs.PlainExpr.{PExpr, EInteger, EName, EIndex, EAttribute, EAttributeOf, EParen, EUnary, EBinary, PBounds, PSubind}
 use Rattle.ada_static_rules.specs.Scope.{Scope}
 use Rattle.ada_static_rules.specs.StaticValue.{value_named, mark_named, is_static, keeps_static}
-use Rattle.legal_programs.specs.alike_scopes.Old.{IsOldExpr, IsOldBounds, IsOldSubind}
-use Rattle.legal_programs.specs.alike_scopes.Alike.{SameTypes, SameNames}
-use Rattle.legal_programs.proofs.types.StaticParts.{AreBounds}
+use Rattle.task_laws.specs.legal.alike_scopes.Old.{IsOldExpr, IsOldBounds, IsOldSubind}
+use Rattle.task_laws.specs.legal.alike_scopes.Alike.{SameTypes, SameNames}
+use Rattle.task_laws.proofs.legal.types.StaticParts.{AreBounds}
 
 module _ (T : TypeTable) (plain : ℕ → Bool) where
   -- a plain name that has a value or a mark

@@ -23,23 +23,23 @@ use Rattle.task_model.specs.Setting.{Setting}
 use Rattle.normal_model.specs.Names.{variable_name}
 use Rattle.normal_model.specs.Ranges.{word_at}
 use Rattle.normal_model.specs.Variables.{variable_declared}
-use Rattle.legal_programs.specs.rewritten_types.Agreement.{IsScalar, Grows, Keeps}
-use Rattle.legal_programs.proofs.rewritten_types.Keeping.{grows-self, grows-on, keeps-self}
-use Rattle.legal_programs.proofs.rewritten_types.Adding.{keeps-subind}
-use Rattle.legal_programs.proofs.types.TypedValues.{anybody}
-use Rattle.legal_programs.proofs.types.StaticWorth.{keeps-agrees, named-alike}
-use Rattle.legal_programs.proofs.types.GoodScopes.{names-kept}
-use Rattle.legal_programs.proofs.types.LaterScopes.{valued-means}
-use Rattle.legal_programs.proofs.types.MainScopes.{StandsWhole, last-stands}
+use Rattle.task_laws.specs.legal.rewritten_types.Agreement.{IsScalar, Grows, Keeps}
+use Rattle.task_laws.proofs.legal.rewritten_types.Keeping.{grows-self, grows-on, keeps-self}
+use Rattle.task_laws.proofs.legal.rewritten_types.Adding.{keeps-subind}
+use Rattle.task_laws.proofs.legal.types.TypedValues.{anybody}
+use Rattle.task_laws.proofs.legal.types.StaticWorth.{keeps-agrees, named-alike}
+use Rattle.task_laws.proofs.legal.types.GoodScopes.{names-kept}
+use Rattle.task_laws.proofs.legal.types.LaterScopes.{valued-means}
+use Rattle.task_laws.proofs.legal.types.MainScopes.{StandsWhole, last-stands}
 use Rattle.normal_laws.proofs.runs.forms.Names.{names-apart}
 use Rattle.normal_laws.proofs.structure.placed.Added.{AreVariablesFrom}
 use Rattle.normal_laws.specs.existence.Laws.{IsLegalOriginal}
 use Rattle.normal_laws.proofs.existence.seen_tasks.Scopes.{meaning-in}
 use Rattle.normal_laws.specs.structure.asked.Pieces.{IsVariable}
 use Rattle.normal_laws.specs.structure.typed.ScopeOf.{IsVariableOf}
-use Rattle.legal_programs.specs.alike_scopes.Alike.{SameTypes, SameNames}
-use Rattle.legal_programs.proofs.alike_scopes.Tables.{types-kept}
-use Rattle.legal_programs.proofs.alike_scopes.Naming.{names-new, table-right}
+use Rattle.task_laws.specs.legal.alike_scopes.Alike.{SameTypes, SameNames}
+use Rattle.task_laws.proofs.legal.alike_scopes.Tables.{types-kept}
+use Rattle.task_laws.proofs.legal.alike_scopes.Naming.{names-new, table-right}
 use Rattle.normal_laws.proofs.legality.scopes.Base.{fewer}
 use Rattle.normal_laws.proofs.legality.scopes.Names.{variable-new}
 use Rattle.normal_laws.proofs.legality.scopes.Fixed.{literal-plain}

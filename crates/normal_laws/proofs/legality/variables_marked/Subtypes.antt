@@ -20,9 +20,9 @@ use Rattle.normal_laws.proofs.structure.placed.Added.{AreSubtypes, AreVariablesF
 use Rattle.normal_laws.proofs.structure.placed.Names.{first-named}
 use Rattle.normal_laws.proofs.structure.placed.Tables.{table-named}
 use Rattle.normal_laws.proofs.structure.placed.Subtypes.{subtypes-placed}
-use Rattle.legal_programs.proofs.types.StaticParts.{HasSubtype}
-use Rattle.legal_programs.proofs.types.MainScopes.{StandsWhole, last-stands}
-use Rattle.legal_programs.proofs.types.TaskTypes.{limits-here}
+use Rattle.task_laws.proofs.legal.types.StaticParts.{HasSubtype}
+use Rattle.task_laws.proofs.legal.types.MainScopes.{StandsWhole, last-stands}
+use Rattle.task_laws.proofs.legal.types.TaskTypes.{limits-here}
 use Rattle.normal_laws.specs.existence.Laws.{IsLegalOriginal}
 use Rattle.normal_laws.specs.legality.scopes.Plain.{plain_name}
 use Rattle.normal_laws.proofs.legality.scopes.Main.{g, last, rules}

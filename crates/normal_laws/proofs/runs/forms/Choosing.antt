@@ -36,7 +36,7 @@ use Rattle.normal_model.specs.Members.{kind_of_index, members_of}
 use Rattle.normal_model.specs.Calls.{entry_called}
 use Rattle.normal_model.specs.RewrittenUnit.{RewrittenUnit}
 use Rattle.normal_model.specs.NormalStmts.{unit_variables}
-use Rattle.legal_programs.specs.rewritten_values.Values.{is_known}
+use Rattle.task_laws.specs.legal.rewritten_values.Values.{is_known}
 use Rattle.normal_laws.specs.structure.types.Own.{own_name}
 use Rattle.normal_laws.specs.structure.types.Laws.{IsOrdered, AreOwn}
 use Rattle.task_laws.specs.translation.Fixed.{fixed_integer}

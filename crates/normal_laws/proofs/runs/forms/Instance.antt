@@ -16,7 +16,7 @@ use Rattle.syn_event.specs.Numbering.{task_at}
 use Rattle.task_model.specs.Starting.{no_unit, unit_of_info, unit_of, objects_of}
 use Rattle.normal_model.specs.RewrittenUnit.{RewrittenUnit}
 use Rattle.normal_model.specs.NormalStmts.{unit_variables}
-use Rattle.legal_programs.specs.rewritten_values.Values.{is_known, old_names}
+use Rattle.task_laws.specs.legal.rewritten_values.Values.{is_known, old_names}
 use Rattle.normal_laws.specs.structure.types.Own.{own_name}
 use Rattle.normal_laws.specs.structure.types.Laws.{IsOrdered, AreOwn}
 use Rattle.task_laws.specs.translation.Translations.{Programs, IsKnown}

@@ -5,7 +5,7 @@ use Rattle.std.proofs.lemmas.Fmt.{decimal_injective}
 use Rattle.task_model.specs.Setting.{Setting}
 use Rattle.normal_model.specs.Names.{variable_text, normal_names, with_variables, with_members, variable_name}
 use Rattle.normal_model.proofs.VariablesLemmas.{Begins, begins-refl, begins-trans}
-use Rattle.legal_programs.proofs.rewritten_values.Saying.{place-within}
+use Rattle.task_laws.proofs.legal.rewritten_values.Saying.{place-within}
 use Rattle.normal_laws.proofs.structure.types.Names.{variable-there, interned-begins}
 
 -- names of more variables begin with those of fewer

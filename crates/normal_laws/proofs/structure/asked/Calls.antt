@@ -21,7 +21,7 @@ use Rattle.normal_model.specs.Members.{known_callee, callee_kept, members_of, me
 use Rattle.normal_model.specs.Calls.{lists_called, Slot, slots_called, actual_before, actuals_before, copied_to, actual_behind, actuals_behind, actual_subtypes, indices_kept, actual_number, call_before, call_behind, call_to, call_subtypes, plain_image, is_chosen, flag_number, flag_subtypes, select_subtypes, flagged, part_taken, select_if, select_image, conditional_image, timed_image}
 use Rattle.normal_model.specs.Aborts.{abort_of, callee_aborted, callees_aborted, abort_image, abort_subtypes}
 use Rattle.normal_model.specs.RewrittenUnit.{RewrittenUnit}
-use Rattle.legal_programs.specs.asked.Asked.{Asks, AskedStmt, AskedStmts, AskedSome, AskedCaseArms}
+use Rattle.task_laws.specs.legal.asked.Asked.{Asks, AskedStmt, AskedStmts, AskedSome, AskedCaseArms}
 use Rattle.normal_laws.specs.structure.asked.Pieces.{IsVariable, AreVariables, member_choice, IsAmong, first_among, later_among, IsTarget, is_known, is_member, named, IsPair, first_pair, later_pair, is_read, is_written, Pieces}
 use Rattle.normal_laws.proofs.structure.asked.CallVariables.{family_subtype, family_kept, callee-there, family-there, actuals-there}
 use Rattle.normal_laws.proofs.structure.asked.Lists.{HasStmt, some-front, some-back, asked-join, asked-some, variables-front, variables-back}

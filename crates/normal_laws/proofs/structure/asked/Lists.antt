@@ -9,7 +9,7 @@ use Rattle.task_model.specs.Setting.{Setting}
 use Rattle.task_model.specs.Frames.{in_front}
 use Rattle.normal_model.specs.Variables.{variable_declared, variables_declared}
 use Rattle.normal_model.proofs.VariablesLemmas.{Begins}
-use Rattle.legal_programs.specs.asked.Asked.{Asks, AskedStmts, AskedSome}
+use Rattle.task_laws.specs.legal.asked.Asked.{Asks, AskedStmts, AskedSome}
 use Rattle.normal_laws.specs.structure.asked.Pieces.{AreVariables}
 use Rattle.common_lemmas.proofs.Lists.{seam_there}
 

@@ -14,7 +14,7 @@ use Rattle.normal_model.specs.RewrittenUnit.{RewrittenUnit}
 use Rattle.normal_model.specs.Waits.{accept_kept, head_left, accept_image, kind_kept, under_guard, alternative_before, alternative_subtypes, guard_then, all_guards, raised_unless, closed_test, wait_image}
 use Rattle.normal_model.specs.NormalStmts.{normal_rewriter}
 use Rattle.normal_model.proofs.VariablesLemmas.{Begins, begins-trans, kind-begins, alts-begin, normal-adds}
-use Rattle.legal_programs.specs.asked.Asked.{Asks, AskedStmts, AskedMaybe, AskedAlts, AskedKind}
+use Rattle.task_laws.specs.legal.asked.Asked.{Asks, AskedStmts, AskedMaybe, AskedAlts, AskedKind}
 use Rattle.normal_laws.specs.structure.asked.Pieces.{IsVariable, AreVariables, IsGuard, Pieces}
 use Rattle.normal_laws.proofs.structure.asked.Lists.{HasStmt, some-back, asked-join, asked-some, added-there}
 

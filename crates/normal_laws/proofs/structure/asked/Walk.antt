@@ -17,7 +17,7 @@ use Rattle.normal_model.specs.Variables.{statement_variables}
 use Rattle.normal_model.specs.NormalStmts.{normal_image, normal_rewriter, normal_body}
 use Rattle.task_model.specs.Frames.{in_front}
 use Rattle.normal_model.proofs.VariablesLemmas.{Begins, begins-trans, stmts-begin, maybe-begins, alts-begin, arms-begin, case_arms-begin, handlers-begin, normal-adds}
-use Rattle.legal_programs.specs.asked.Asked.{Asks, AskedStmt, AskedStmts, AskedSome, AskedMaybe, AskedAlts, AskedKind, AskedArms, AskedCaseArms, AskedBody, AskedHandlers}
+use Rattle.task_laws.specs.legal.asked.Asked.{Asks, AskedStmt, AskedStmts, AskedSome, AskedMaybe, AskedAlts, AskedKind, AskedArms, AskedCaseArms, AskedBody, AskedHandlers}
 use Rattle.normal_laws.specs.structure.asked.Pieces.{AreVariables, Pieces}
 use Rattle.normal_laws.proofs.structure.asked.Lists.{HasStmt, some-front, some-back, asked-join, asked-some, asked-all, added-there}
 use Rattle.normal_laws.proofs.structure.asked.Calls.{plain-asked, plain-some, conditional-asked, timed-asked, select-some, abort-asked, abort-some}

@@ -27,7 +27,7 @@ use Rattle.syn_event.specs.DeclaredTasks.{text_of}
 use Rattle.syn_event.specs.Extents.{fixed}
 use Rattle.syn_event.specs.RuleMainEntry.{main_entry}
 use Rattle.syn_event.specs.RuleSharedVariable.{shared_variable}
-use Rattle.legal_programs.specs.sites.Met.{IsCheckMet}
+use Rattle.task_laws.specs.legal.sites.Met.{IsCheckMet}
 use Rattle.task_model.specs.Setting.{Setting, is_family, first_expr, lists_in, lists_of}
 use Rattle.task_model.specs.Calls.{variable_of}
 use Rattle.normal_model.specs.Ranges.{word_at, kind_of_range, subtype_of_range, array_range, family_range}
@@ -39,8 +39,8 @@ use Rattle.normal_model.specs.Waits.{head_left, not_held}
 use Rattle.normal_model.specs.Variables.{variable_declared}
 use Rattle.normal_model.specs.Walk.{inside_alts}
 use Rattle.normal_model.specs.NormalStmts.{normal_rewriter}
-use Rattle.legal_programs.specs.asked.Asked.{Asks, AskedAlts}
-use Rattle.legal_programs.specs.asked.Kinds.{place_asks, check_asks, both}
+use Rattle.task_laws.specs.legal.asked.Asked.{Asks, AskedAlts}
+use Rattle.task_laws.specs.legal.asked.Kinds.{place_asks, check_asks, both}
 use Rattle.normal_laws.specs.structure.asked.Pieces.{IsVariable, AreVariables, IsGuard, member_choice, IsAmong, first_among, later_among, IsPair, first_pair, later_pair, Pieces}
 use Rattle.normal_laws.proofs.structure.asked.CallVariables.{family-there, actuals-there}
 use Rattle.normal_laws.proofs.structure.placed.Depth.{depth-of, expr-depth, few-alternatives}

@@ -17,7 +17,7 @@ use Rattle.syn_event.specs.RuleBodyMissing.{body_missing}
 use Rattle.syn_event.specs.RuleExitPlace.{exit_place}
 use Rattle.syn_event.specs.RuleRaisePlace.{raise_place}
 use Rattle.syn_event.specs.RuleLimit.{OverAt, over_limit}
-use Rattle.legal_programs.specs.sites.Met.{IsCheckMet}
+use Rattle.task_laws.specs.legal.sites.Met.{IsCheckMet}
 
 abbrev told : OverAt → CheckRefusal
 told o = record { rule = 23; over = Some o.over; span = o.span }

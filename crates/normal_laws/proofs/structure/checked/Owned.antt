@@ -4,7 +4,7 @@ use Rattle.ada_tree.specs.declared.naming.NameId.{NameId}
 use Rattle.ada_tree.specs.PlainProgram.{PProgram}
 use Rattle.ada_tree.specs.Every.{Rules, EveryProgram}
 use Rattle.ada_tree.specs.WellPlaced.{well_placed}
-use Rattle.legal_programs.proofs.sites.Both.{together}
+use Rattle.task_laws.proofs.legal.sites.Both.{together}
 use Rattle.normal_laws.specs.structure.checked.Around.{own_rules}
 
 -- where rules ask of each name that it is one of these

@@ -19,7 +19,7 @@ use Rattle.syn_event.specs.RuleMainEntry.{main_entry}
 use Rattle.syn_event.specs.RuleExitPlace.{exit_place}
 use Rattle.syn_event.specs.RuleRaisePlace.{raise_place}
 use Rattle.syn_event.specs.RuleLimit.{limit_passed}
-use Rattle.legal_programs.specs.sites.Met.{IsCheckMet}
+use Rattle.task_laws.specs.legal.sites.Met.{IsCheckMet}
 use Rattle.common_lemmas.proofs.Truth.{false_behind}
 
 -- a limit that is kept to

@@ -10,10 +10,10 @@ use Rattle.ada_tree.specs.PlainExpr.{PExpr, EInteger, EName, EIndex, EAttribute,
 use Rattle.ada_static_rules.specs.StaticValue.{first_of_two, value_named, keeps_static, is_static, signed, bound_of, of_base, attribute_at, then_do, operated, named, value_of}
 use Rattle.ada_tree.specs.Every.{EveryExpr, EveryBounds, EveryDrange}
 use Rattle.syn_event.specs.Extents.{unraised_value, fixed, between, bounds_extent, marked_extent, extent}
-use Rattle.legal_programs.specs.rewritten_types.Agreement.{Literal, Agrees}
-use Rattle.legal_programs.specs.rewritten_values.Values.{old_names}
-use Rattle.legal_programs.proofs.rewritten_values.Saying.{bases-alike}
-use Rattle.legal_programs.proofs.rewritten_types.Lookups.{position-among}
+use Rattle.task_laws.specs.legal.rewritten_types.Agreement.{Literal, Agrees}
+use Rattle.task_laws.specs.legal.rewritten_values.Values.{old_names}
+use Rattle.task_laws.proofs.legal.rewritten_values.Saying.{bases-alike}
+use Rattle.task_laws.proofs.legal.rewritten_types.Lookups.{position-among}
 
 -- what is done with a value
 then-alike : (f g : ℤ → Result ℤ Span) (r : Result ℤ Span) → ((z : ℤ) → f z ≡ g z) → then_do f r ≡ then_do g r

@@ -13,7 +13,7 @@ use Rattle.syn_event.specs.DeclaredTasks.{text_of}
 use Rattle.syn_event.specs.AddedNames.{is_added_name}
 use Rattle.normal_model.specs.Names.{id_of}
 use Rattle.normal_model.proofs.VariablesLemmas.{Begins}
-use Rattle.legal_programs.proofs.rewritten_values.Saying.{place-within}
+use Rattle.task_laws.proofs.legal.rewritten_values.Saying.{place-within}
 use Rattle.normal_laws.specs.structure.types.Own.{own_name}
 use Rattle.normal_laws.proofs.structure.types.Names.{fold-begins, interned-has, text-place}
 use Rattle.common_lemmas.proofs.Options.{some_same}

@@ -14,8 +14,8 @@ use Rattle.syn_event.specs.AllNumbers.{first_of, last_index, entry_of_task, entr
 use Rattle.syn_event.specs.DeclaredTasks.{decl_list, tasks_of}
 use Rattle.normal_model.specs.NormalTree.{normal_tree}
 use Rattle.normal_model.proofs.VariablesLemmas.{Begins}
-use Rattle.legal_programs.specs.rewritten_types.Agreement.{Agrees}
-use Rattle.legal_programs.specs.rewritten_values.Values.{old_names}
+use Rattle.task_laws.specs.legal.rewritten_types.Agreement.{Agrees}
+use Rattle.task_laws.specs.legal.rewritten_values.Values.{old_names}
 use Rattle.normal_laws.specs.structure.types.Own.{own_name}
 use Rattle.normal_laws.specs.structure.types.Laws.{IsOrdered, setting_of, AreOwn}
 use Rattle.normal_laws.proofs.structure.types.Normal.{normal_agrees}

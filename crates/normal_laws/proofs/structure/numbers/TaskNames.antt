@@ -25,10 +25,10 @@ use Rattle.task_model.specs.Setting.{Setting}
 use Rattle.normal_model.specs.Names.{name_of_member, texts_of_member, member_texts, with_members, id_of, member_name}
 use Rattle.normal_model.specs.NormalTree.{variables_needed, normal_tree}
 use Rattle.normal_model.proofs.VariablesLemmas.{Begins}
-use Rattle.legal_programs.specs.rewritten_types.Agreement.{Agrees}
-use Rattle.legal_programs.specs.rewritten_types.Rewriting.{names_declared}
-use Rattle.legal_programs.proofs.rewritten_types.Lookups.{place-all}
-use Rattle.legal_programs.specs.rewritten_values.Values.{old_names}
+use Rattle.task_laws.specs.legal.rewritten_types.Agreement.{Agrees}
+use Rattle.task_laws.specs.legal.rewritten_types.Rewriting.{names_declared}
+use Rattle.task_laws.proofs.legal.rewritten_types.Lookups.{place-all}
+use Rattle.task_laws.specs.legal.rewritten_values.Values.{old_names}
 use Rattle.normal_laws.specs.structure.types.Own.{own_name}
 use Rattle.normal_laws.specs.structure.types.Laws.{setting_of, AreOwn}
 use Rattle.normal_laws.proofs.structure.types.Names.{names-begin, variables-begin}

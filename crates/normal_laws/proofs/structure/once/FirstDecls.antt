@@ -11,7 +11,7 @@ use Rattle.ada_static_rules.specs.Sites.{with_words, decl_sites, decls_sites}
 use Rattle.ada_static_rules.specs.Declaring.{declared_object, after_decl}
 use Rattle.syn_event.specs.NamedTasks.{type_named, with_type}
 use Rattle.normal_model.specs.NormalTree.{mark_of, unless_left, first_decls}
-use Rattle.legal_programs.specs.rewritten_types.Rewriting.{names_declared}
+use Rattle.task_laws.specs.legal.rewritten_types.Rewriting.{names_declared}
 use Rattle.ada_decl_rules.proofs.duplicates.Noting.{quiet_static, namings_append, quiet_none}
 use Rattle.ada_decl_rules.proofs.duplicates.Behind.{with_names_is, still_in_main, array_is, instance_is, names_are, number_is, object_is, subtype_is}
 use Rattle.ada_decl_rules.specs.duplicates.NamingsInOrder.{namings_of, declared}

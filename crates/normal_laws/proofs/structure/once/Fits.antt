@@ -9,7 +9,7 @@ use Rattle.ada_static_rules.specs.Declaring.{before_all, first_scope, inner_scop
 use Rattle.ada_static_rules.specs.Sites.{names_sites, decls_sites, body_sites, sites}
 use Rattle.ada_static_rules.specs.Refusals.{MeetsTypeRules}
 use Rattle.syn_event.specs.DeclaredTasks.{decl_list}
-use Rattle.legal_programs.proofs.rewritten_types.Refused.{declared_once}
+use Rattle.task_laws.proofs.legal.rewritten_types.Refused.{declared_once}
 use Rattle.ada_decl_rules.specs.duplicates.NamingsInOrder.{namings_of}
 use Rattle.ada_decl_rules.specs.declared.duplicates.namings_in_order.Naming.{Naming}
 use Rattle.normal_laws.specs.structure.once.Apart.{IsFreeOf, AreApart, AreDistinct, IsAlone, fixed_name, loose_name, fixed_names, loose_names, IsFitIn, AreFit}

@@ -15,7 +15,7 @@ use Rattle.ada_decl_rules.specs.declared.duplicates.namings_in_order.Naming.TheV
 use Rattle.normal_laws.specs.structure.once.Apart.{is_repeated, fixed_names, introduced_names, NoneRepeated, AreFit}
 use Rattle.normal_laws.proofs.structure.once.Once.{fit-from, fit-to}
 use Rattle.common_lemmas.proofs.Lists.{back_empty, front_empty}
-use Rattle.legal_programs.proofs.rewritten_types.Refused.{no_duplicate, no_word}
+use Rattle.task_laws.proofs.legal.rewritten_types.Refused.{no_duplicate, no_word}
 
 word-none : (test : Bool) (w : Word) → test ≡ false → at_word test w ≡ []
 word-none test w e = ap (λ b. at_word b w) e

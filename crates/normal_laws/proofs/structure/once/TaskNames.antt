@@ -15,8 +15,8 @@ use Rattle.ada_static_rules.specs.Sites.{is_task_object, with_words, decl_sites,
 use Rattle.ada_static_rules.specs.Declaring.{with_name, with_names, seen_as, task_thing, task_object, plain_object, declared_object, after_decl}
 use Rattle.ada_static_rules.specs.RuleDuplicate.{is_predefined, is_among}
 use Rattle.syn_event.specs.NamedTasks.{NamedTasks, named_tasks, type_named, with_type, task_names_of_type, object_task_names, single_task_name, task_names_in}
-use Rattle.legal_programs.specs.rewritten_types.Rewriting.{names_declared, IsUsed, IsUnused, DeclareOnce}
-use Rattle.legal_programs.proofs.rewritten_types.Fresh.{other}
+use Rattle.task_laws.specs.legal.rewritten_types.Rewriting.{names_declared, IsUsed, IsUnused, DeclareOnce}
+use Rattle.task_laws.proofs.legal.rewritten_types.Fresh.{other}
 use Rattle.ada_decl_rules.proofs.duplicates.Behind.{still_in_main, object_is}
 use Rattle.ada_decl_rules.specs.duplicates.NamingsInOrder.{namings_of, declared}
 use Rattle.ada_decl_rules.specs.declared.duplicates.namings_in_order.Naming.{Naming}

@@ -16,7 +16,7 @@ use Rattle.ada_static_rules.specs.Sites.{is_task_object}
 use Rattle.ada_static_rules.specs.Declaring.{with_name, with_names, first_scope, object_meaning, task_object, task_array, plain_object, array_object, declared_object, type_of_mark, task_thing, after_decl}
 use Rattle.syn_event.specs.NamedTasks.{type_named, with_type}
 use Rattle.normal_model.specs.NormalTree.{mark_of}
-use Rattle.legal_programs.proofs.rewritten_types.Lookups.{find-all}
+use Rattle.task_laws.proofs.legal.rewritten_types.Lookups.{find-all}
 use Rattle.common_lemmas.proofs.Options.{some_same}
 
 -- ---- things and marks

@@ -13,7 +13,7 @@ use Rattle.ada_tree.specs.WellPlaced.{well_placed}
 use Rattle.syn_event.specs.declared.numbering.Mode.TheVariants.{Original}
 use Rattle.syn_event.specs.CheckScope.{CheckScope, CheckSite}
 use Rattle.syn_event.specs.CheckSites as check
-use Rattle.legal_programs.specs.sites.Met.{IsCheckMet}
+use Rattle.task_laws.specs.legal.sites.Met.{IsCheckMet}
 use Rattle.task_model.specs.Setting.{Setting, is_family, first_expr, lists_in, lists_of}
 use Rattle.task_model.specs.Calls.{variable_of}
 use Rattle.normal_model.specs.Making.{moving}

@@ -12,7 +12,7 @@ use Rattle.syn_event.specs.declared.limits.What.TheVariants.{Nesting, Alternativ
 use Rattle.syn_event.specs.CheckScope.{CheckScope, CheckSite, counts}
 use Rattle.syn_event.specs.CheckSites.{site, expr_sites, numbered, alt_places}
 use Rattle.syn_event.proofs.Nothing.{test_fails}
-use Rattle.legal_programs.specs.sites.Met.{IsCheckMet}
+use Rattle.task_laws.specs.legal.sites.Met.{IsCheckMet}
 use Rattle.common_lemmas.proofs.Lists.{all_back, all_front}
 
 -- ---- limits

@@ -23,7 +23,7 @@ use Rattle.syn_event.specs.CheckScope.{CheckScope, CheckSite, counts}
 use Rattle.syn_event.specs.declared.limits.What.TheVariants.{Nesting}
 use Rattle.syn_event.specs.CheckSites as check
 use Rattle.syn_event.specs.Numbering.{task_at}
-use Rattle.legal_programs.specs.sites.Met.{IsCheckMet}
+use Rattle.task_laws.specs.legal.sites.Met.{IsCheckMet}
 use Rattle.task_model.specs.Setting.{Setting, is_family, callee_task, first_expr, lists_in, lists_of}
 use Rattle.normal_model.specs.Names.{variable_name, task_name, name_of_task}
 use Rattle.normal_model.specs.Ranges.{word_at, subtype_of_range, array_range, family_range}
@@ -36,8 +36,8 @@ use Rattle.normal_model.specs.Variables.{variable_declared}
 use Rattle.normal_model.specs.Walk.{after_stmts, inside_handlers}
 use Rattle.normal_model.specs.NormalStmts.{normal_rewriter}
 use Rattle.normal_model.specs.NormalTree.{variables_needed}
-use Rattle.legal_programs.specs.asked.Asked.{Asks}
-use Rattle.legal_programs.specs.asked.Kinds.{place_asks, check_asks, both}
+use Rattle.task_laws.specs.legal.asked.Asked.{Asks}
+use Rattle.task_laws.specs.legal.asked.Kinds.{place_asks, check_asks, both}
 use Rattle.normal_laws.specs.structure.asked.Pieces.{IsVariable, AreVariables, IsGuard, member_choice, IsAmong, first_among, later_among, IsTarget, is_known, is_member, Pieces}
 use Rattle.normal_laws.specs.structure.placed.Placeable.{IsName, AreTaken, call_asks, HasNames, KindsHaveNames, IsSmallIndex, HasSmallIndex}
 use Rattle.normal_laws.proofs.structure.placed.Depth.{depth-of, expr-depth, expr-moved, few-alternatives}

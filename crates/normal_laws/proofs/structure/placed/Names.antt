@@ -16,7 +16,7 @@ use Rattle.normal_model.specs.Names.{name_of_member, member_texts, variable_text
 use Rattle.normal_model.specs.NormalTree.{variables_needed}
 use Rattle.normal_model.proofs.VariablesLemmas.{Begins, begins-refl, begins-trans}
 use Rattle.normal_laws.proofs.structure.types.Names.{interned-begins, fold-begins, variables-begin, names-begin, variable-there}
-use Rattle.legal_programs.proofs.rewritten_values.Saying.{place-within}
+use Rattle.task_laws.proofs.legal.rewritten_values.Saying.{place-within}
 use Rattle.normal_laws.specs.structure.placed.Placeable.{IsName, HasNames, IsShortIndex, IsTask, IsPlaceable}
 use Rattle.ada_tree.specs.declared.static_types.Kind.{Kind}
 use Rattle.ada_tree.specs.declared.static_types.Kind.TheVariants.{Integer, Truth, Enumeration, Array}

@@ -6,7 +6,7 @@ use Rattle.ada_tree.specs.WellPlaced.{IsWellPlaced}
 use Rattle.syn_event.specs.AllNumbers.{all_numbers}
 use Rattle.syn_event.specs.CheckRefusals.{MeetsCheckRules}
 use Rattle.syn_event.specs.declared.numbering.Mode.TheVariants.{Original}
-use Rattle.legal_programs.proofs.sites.Meeting.{all_check_met}
+use Rattle.task_laws.proofs.legal.sites.Meeting.{all_check_met}
 use Rattle.normal_laws.specs.structure.placed.Placeable.{HasRoom, IsPlaceable}
 use Rattle.normal_laws.specs.structure.placed.Laws.{NormalIsPlaced, OriginalIsPlaced}
 use Rattle.normal_laws.proofs.structure.placed.Names.{first-named}

@@ -15,7 +15,7 @@ use Rattle.ada_static_rules.specs.Declaring.{first_scope, with_names, with_types
 use Rattle.ada_static_rules.specs.Refusals.{types_in}
 use Rattle.ada_tree.specs.Every.{EveryWord, EveryDecl, EveryDecls}
 use Rattle.ada_tree.specs.WellPlaced.{well_placed}
-use Rattle.legal_programs.proofs.rewritten_types.Adding.{names-types}
+use Rattle.task_laws.proofs.legal.rewritten_types.Adding.{names-types}
 use Rattle.normal_laws.specs.structure.placed.Placeable.{IsName, HasNames, KindsHaveNames, MarksHaveNames}
 use Rattle.common_lemmas.proofs.Lists.{all_joined}
 

@@ -22,7 +22,7 @@ use Rattle.syn_event.specs.NamedTasks.{NamedTasks, type_named, task_names_of_typ
 use Rattle.syn_event.specs.AllNumbers.{info_of_task, all_numbers}
 use Rattle.syn_event.specs.DeclaredTasks.{text_of}
 use Rattle.syn_event.proofs.Nothing.{test_fails}
-use Rattle.legal_programs.specs.sites.Met.{IsCheckMet}
+use Rattle.task_laws.specs.legal.sites.Met.{IsCheckMet}
 use Rattle.normal_laws.specs.structure.placed.Placeable.{IsName, IsSmallIndex, IsShortIndex, HasSmallIndex, IsTask}
 use Rattle.common_lemmas.proofs.Lists.{all_back, all_front, all_joined}
 

@@ -18,9 +18,9 @@ use Rattle.syn_event.specs.CheckScope.{CheckScope, CheckSite}
 use Rattle.syn_event.specs.CheckSites as check
 use Rattle.syn_event.specs.NamedTasks.{type_named, with_type}
 use Rattle.syn_event.specs.DeclaredTasks.{decl_list}
-use Rattle.legal_programs.specs.sites.Met.{IsCheckMet}
-use Rattle.legal_programs.proofs.sites.Both.{together}
-use Rattle.legal_programs.proofs.sites.Meeting.{all_check_met}
+use Rattle.task_laws.specs.legal.sites.Met.{IsCheckMet}
+use Rattle.task_laws.proofs.legal.sites.Both.{together}
+use Rattle.task_laws.proofs.legal.sites.Meeting.{all_check_met}
 use Rattle.task_model.specs.Setting.{Setting}
 use Rattle.normal_model.specs.Names.{variable_name, task_name}
 use Rattle.normal_model.specs.Ranges.{word_at}
@@ -28,11 +28,11 @@ use Rattle.normal_model.specs.RewrittenUnit.{RewrittenUnit}
 use Rattle.normal_model.specs.NormalStmts.{normal_body, unit_variables}
 use Rattle.normal_model.specs.NormalTree.{decls_front, mark_of, unless_left, first_decls, tasks_beside, task_under, declared_under, task_declared, unit_for, running, body_copy, bodies_of, main_variables, variables_if, variables_of_body, greatest, variables_needed, normal_decls, normal_tree}
 use Rattle.normal_model.proofs.VariablesLemmas.{begins-refl}
-use Rattle.legal_programs.specs.asked.Asked.{AskedBody}
-use Rattle.legal_programs.specs.asked.Kinds.{place_asks, check_asks, both}
-use Rattle.legal_programs.proofs.asked.Placed.{placed_asked, asked_placed}
-use Rattle.legal_programs.proofs.asked.Checked.{checked_asked}
-use Rattle.legal_programs.proofs.asked.Together.{both_asked}
+use Rattle.task_laws.specs.legal.asked.Asked.{AskedBody}
+use Rattle.task_laws.specs.legal.asked.Kinds.{place_asks, check_asks, both}
+use Rattle.task_laws.proofs.legal.asked.Placed.{placed_asked, asked_placed}
+use Rattle.task_laws.proofs.legal.asked.Checked.{checked_asked}
+use Rattle.task_laws.proofs.legal.asked.Together.{both_asked}
 use Rattle.normal_laws.specs.structure.asked.Pieces.{IsAmong, first_among, later_among}
 use Rattle.normal_laws.proofs.structure.asked.Walk.{body-keeps}
 use Rattle.normal_laws.proofs.structure.types.Variables.{IsTaskOrBody, tasks-only, bodies-only}

@@ -19,7 +19,7 @@ use Rattle.ada_static_rules.specs.Sites.{site}
 use Rattle.ada_static_rules.specs.RuleMismatch.{no_value, target_kind}
 use Rattle.ada_static_rules.specs.RuleNotVariable.{is_variable, is_array, whole_written}
 use Rattle.ada_static_rules.specs.RuleArrayUse.{whole_array}
-use Rattle.legal_programs.specs.alike_scopes.Laws.{IsMetBut}
+use Rattle.task_laws.specs.legal.alike_scopes.Laws.{IsMetBut}
 use Rattle.normal_laws.proofs.structure.typed.Places.{met-node, met-writes}
 
 -- ---- what can be written has a value

@@ -17,7 +17,7 @@ use Rattle.syn_event.proofs.Nothing.{append_nothing}
 use Rattle.task_model.specs.Setting.{Setting}
 use Rattle.normal_model.specs.RewrittenUnit.{RewrittenUnit}
 use Rattle.normal_laws.specs.structure.asked.Pieces.{IsTarget, named}
-use Rattle.legal_programs.specs.alike_scopes.Laws.{IsMetBut}
+use Rattle.task_laws.specs.legal.alike_scopes.Laws.{IsMetBut}
 use Rattle.normal_laws.specs.structure.typed.ScopeOf.{IsSeenWith, IsTaskThere, IsScopeOf, IsPlaceOf, AreTasksOf}
 use Rattle.normal_laws.proofs.structure.typed.Places.{met-callee}
 

@@ -25,7 +25,7 @@ use Rattle.normal_model.specs.Calls.{Slot, slots_called, actuals_passed, actual_
 use Rattle.normal_model.specs.RewrittenUnit.{RewrittenUnit}
 use Rattle.normal_laws.specs.structure.asked.Pieces.{IsVariable, AreVariables, IsTarget, IsPair, first_pair, later_pair}
 use Rattle.normal_laws.proofs.structure.asked.CallVariables.{family-there, actuals-there}
-use Rattle.legal_programs.specs.alike_scopes.Laws.{IsMetBut}
+use Rattle.task_laws.specs.legal.alike_scopes.Laws.{IsMetBut}
 use Rattle.normal_laws.specs.structure.typed.ScopeOf.{HasKnownKinds, IsVariableOf, IsRange, AreSlots, IsFamilyOf, IsEntryOf, IsScopeOf, IsPlaceOf, AreTasksOf}
 use Rattle.normal_laws.proofs.structure.typed.Places.{met-of, met-calls}
 use Rattle.normal_laws.proofs.structure.typed.Variables.{AllMetBut, of-kind, variable-kind, variable-met, actual-met}

@@ -14,8 +14,8 @@ use Rattle.ada_static_rules.specs.StaticValue.{is_static}
 use Rattle.ada_static_rules.specs.Sites.{expr_sites, expr_of, choice_sites}
 use Rattle.ada_static_rules.specs.RuleRangeBad.{is_outside}
 use Rattle.ada_static_rules.specs.RuleChoiceBad.{selected_range, mark_of_thing, choice_range, choice_span, do_overlap, overlaps_one, with_range, overlapping, bad_choices}
-use Rattle.legal_programs.proofs.types.StaticParts.{static-told}
-use Rattle.legal_programs.specs.alike_scopes.Laws.{IsMetBut}
+use Rattle.task_laws.proofs.legal.types.StaticParts.{static-told}
+use Rattle.task_laws.specs.legal.alike_scopes.Laws.{IsMetBut}
 use Rattle.syn_event.specs.declared.numbering.TaskInfo.{TaskInfo}
 use Rattle.normal_laws.specs.structure.typed.ScopeOf.{IsVariableOf, IsOtherMember, AreOtherMembers}
 use Rattle.normal_laws.proofs.structure.typed.Places.{met-of, met-static, met-in}

@@ -14,17 +14,17 @@ use Rattle.ada_static_rules.specs.Scope.{Scope, Range, Thing, TypeMark, Variable
 use Rattle.ada_static_rules.specs.Demand.{scalar_only, makes_instance, must_be_static, must_lie_in, initializes, for_scalar, for_array, Site}
 use Rattle.ada_static_rules.specs.Declaring.{Declared, declared_object, with_constants, with_types, after_own_object}
 use Rattle.ada_static_rules.specs.Sites.{site, if_there, is_task_object, names_sites, expr_sites, static_of, subind_sites, drange_sites, may_be_task, object_marks, component_marks, shape_sites, value_sites, free_value_sites, all_init_sites, array_init_sites, scalar_init_sites, object_marking, init_sites, object_sites, own_object_sites, own_sites, decl_sites}
-use Rattle.legal_programs.specs.rewritten_types.Rewriting.{is_no_task, mark_of}
-use Rattle.legal_programs.specs.rewritten_types.Agreement.{IsScalar}
+use Rattle.task_laws.specs.legal.rewritten_types.Rewriting.{is_no_task, mark_of}
+use Rattle.task_laws.specs.legal.rewritten_types.Agreement.{IsScalar}
 use Rattle.normal_laws.specs.structure.checked.Around.{own_rules}
-use Rattle.legal_programs.specs.alike_scopes.Alike.{of_values, of_arrays, SameMark, IsNoValue, no_thing, a_task_type, a_task, a_task_object, a_task_array, the_procedure, a_unit, SameThing, same_type, same_variable, same_constant, same_parameter, same_loop_parameter, same_literal, same_exception, same_unclear, no_values, SameTypes, Alike}
-use Rattle.legal_programs.specs.alike_scopes.Old.{IsOldExpr, IsOldShape, allows_task}
-use Rattle.legal_programs.specs.alike_scopes.Laws.{IsMetBut}
-use Rattle.legal_programs.proofs.rewritten_types.Adding.{names-main, keeps-shape}
-use Rattle.legal_programs.proofs.alike_scopes.Naming.{tables-kept}
-use Rattle.legal_programs.proofs.alike_scopes.Objects.{declared-same}
-use Rattle.legal_programs.proofs.alike_scopes.Inner.{own-object-alike}
-use Rattle.legal_programs.proofs.alike_scopes.Marks.{values-marking, array-marking}
+use Rattle.task_laws.specs.legal.alike_scopes.Alike.{of_values, of_arrays, SameMark, IsNoValue, no_thing, a_task_type, a_task, a_task_object, a_task_array, the_procedure, a_unit, SameThing, same_type, same_variable, same_constant, same_parameter, same_loop_parameter, same_literal, same_exception, same_unclear, no_values, SameTypes, Alike}
+use Rattle.task_laws.specs.legal.alike_scopes.Old.{IsOldExpr, IsOldShape, allows_task}
+use Rattle.task_laws.specs.legal.alike_scopes.Laws.{IsMetBut}
+use Rattle.task_laws.proofs.legal.rewritten_types.Adding.{names-main, keeps-shape}
+use Rattle.task_laws.proofs.legal.alike_scopes.Naming.{tables-kept}
+use Rattle.task_laws.proofs.legal.alike_scopes.Objects.{declared-same}
+use Rattle.task_laws.proofs.legal.alike_scopes.Inner.{own-object-alike}
+use Rattle.task_laws.proofs.legal.alike_scopes.Marks.{values-marking, array-marking}
 use Rattle.normal_laws.proofs.structure.typed.Places.{met-declares}
 use Rattle.normal_laws.proofs.structure.typed.Variables.{AllMetBut}
 use Rattle.normal_laws.proofs.structure.typed.Stays.{old-expr, old-drange, old-subind, stays, expr-stays, static-stays, IsNoTaskThere, subind-stays, drange-stays}

@@ -22,10 +22,10 @@ use Rattle.ada_static_rules.specs.RuleReadOut.{out_formal}
 use Rattle.ada_static_rules.specs.RuleArrayUse.{whole_array}
 use Rattle.ada_value.specs.declared.values.Value.TheVariants.{Truth}
 use Rattle.ada_value.specs.Values.{lies_in, position_of, value_in}
-use Rattle.legal_programs.specs.rewritten_types.Agreement as types
-use Rattle.legal_programs.specs.types.Typed.{HasPosition, HasLimits}
-use Rattle.legal_programs.proofs.types.StaticParts.{IsStaticIn}
-use Rattle.legal_programs.specs.literals.Literals.{HasLiteralAt, HasIndexLiterals}
+use Rattle.task_laws.specs.legal.rewritten_types.Agreement as types
+use Rattle.task_laws.specs.legal.types.Typed.{HasPosition, HasLimits}
+use Rattle.task_laws.proofs.legal.types.StaticParts.{IsStaticIn}
+use Rattle.task_laws.specs.legal.literals.Literals.{HasLiteralAt, HasIndexLiterals}
 use Rattle.normal_model.specs.Ranges.{word_at}
 use Rattle.normal_model.specs.Members.{integer_literal, literal_in}
 use Rattle.normal_laws.specs.structure.typed.ScopeOf.{HasKnownKinds, IsLiteralOf, MeansLiteral, MeansInteger}

@@ -20,7 +20,7 @@ use Rattle.ada_static_rules.specs.RuleChoiceBad.{bad_choices}
 use Rattle.ada_static_rules.specs.RuleArrayUse.{array_in_node, array_written}
 use Rattle.ada_static_rules.specs.RuleTextUse.{image_in_node}
 use Rattle.ada_static_rules.specs.RuleNotException.{no_exception}
-use Rattle.legal_programs.specs.alike_scopes.Laws.{IsMetBut}
+use Rattle.task_laws.specs.legal.alike_scopes.Laws.{IsMetBut}
 
 module _ (d : Scope) where
   pub met-declares : (fixed : Bool) (w : Word) → IsMetBut (site d (declares fixed w))

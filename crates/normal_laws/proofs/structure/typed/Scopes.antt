@@ -19,7 +19,7 @@ use Rattle.ada_static_rules.specs.Sites.{if_there, names_sites, all_names, forma
 use Rattle.ada_static_rules.specs.RuleArgCount.{called_entry}
 use Rattle.ada_static_rules.specs.RuleDuplicate.{is_predefined, is_among, fixes, introduces, duplicate}
 use Rattle.syn_event.specs.declared.numbering.TaskInfo.{TaskInfo}
-use Rattle.legal_programs.specs.rewritten_types.Agreement.{IsScalar}
+use Rattle.task_laws.specs.legal.rewritten_types.Agreement.{IsScalar}
 use Rattle.syn_event.specs.Numbering.{task_named}
 use Rattle.task_model.specs.Setting.{entry_of}
 use Rattle.normal_model.specs.Names.{variable_name, member_name, task_name}
@@ -27,12 +27,12 @@ use Rattle.normal_model.specs.RewrittenUnit.{RewrittenUnit}
 use Rattle.normal_model.specs.NormalTree.{tasks_beside}
 use Rattle.normal_laws.specs.structure.asked.Pieces.{IsAmong}
 use Rattle.normal_laws.specs.structure.checked.Around.{own_rules}
-use Rattle.legal_programs.specs.alike_scopes.Alike.{Alike}
-use Rattle.legal_programs.proofs.alike_scopes.Inner.{inside_is_alike, formals_are_alike, loop_is_alike}
+use Rattle.task_laws.specs.legal.alike_scopes.Alike.{Alike}
+use Rattle.task_laws.proofs.legal.alike_scopes.Inner.{inside_is_alike, formals_are_alike, loop_is_alike}
 use Rattle.normal_laws.specs.structure.typed.ScopeOf.{IsVariableOf, IsSeenWith, IsTaskThere, MeansLiteral, MeansInteger, IsLiteralOf, IsEntryOf, IsArrayOf, IsInnerName, IsPlaceOf, IsScopeOf}
 use Rattle.normal_laws.proofs.structure.typed.Stays.{old-formals, old-drange}
 use Rattle.common_lemmas.proofs.Truth.{or_left, clash}
-use Rattle.legal_programs.proofs.rewritten_types.Refused.{no_word}
+use Rattle.task_laws.proofs.legal.rewritten_types.Refused.{no_word}
 
 -- ---- names
 

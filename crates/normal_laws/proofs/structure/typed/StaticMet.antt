@@ -22,10 +22,10 @@ use Rattle.ada_static_rules.specs.RuleRangeBad.{is_fixed, raised, raises, is_bel
 use Rattle.ada_static_rules.specs.RuleReadOut.{out_formal}
 use Rattle.ada_static_rules.specs.RuleArgCount.{at_place}
 use Rattle.ada_static_rules.specs.RuleArrayUse.{whole_array}
-use Rattle.legal_programs.proofs.types.ExprKinds.{IsScalarMark}
-use Rattle.legal_programs.proofs.types.StaticParts.{IsStaticIn, static-told, AreBounds, HasSubtype, HasRange}
-use Rattle.legal_programs.proofs.types.TypedValues.{are-taken}
-use Rattle.legal_programs.specs.alike_scopes.Laws.{IsMetBut}
+use Rattle.task_laws.proofs.legal.types.ExprKinds.{IsScalarMark}
+use Rattle.task_laws.proofs.legal.types.StaticParts.{IsStaticIn, static-told, AreBounds, HasSubtype, HasRange}
+use Rattle.task_laws.proofs.legal.types.TypedValues.{are-taken}
+use Rattle.task_laws.specs.legal.alike_scopes.Laws.{IsMetBut}
 use Rattle.normal_laws.proofs.structure.typed.Places.{met-whole, met-node, met-of, met-static}
 use Rattle.normal_laws.proofs.structure.typed.Variables.{AllMetBut, of-kind}
 

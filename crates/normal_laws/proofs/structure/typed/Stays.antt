@@ -17,16 +17,16 @@ use Rattle.ada_static_rules.specs.RuleTextUse.{is_image_of}
 use Rattle.ada_static_rules.specs.RuleMismatch.{target_kind}
 use Rattle.ada_static_rules.specs.RuleChoiceBad.{selected_range}
 use Rattle.ada_static_rules.specs.RuleArrayUse.{array_in_node}
-use Rattle.legal_programs.specs.sites.Met.{IsMet}
+use Rattle.task_laws.specs.legal.sites.Met.{IsMet}
 use Rattle.normal_laws.specs.structure.asked.Pieces.{IsPlain}
-use Rattle.legal_programs.specs.rewritten_types.Rewriting.{is_no_task}
+use Rattle.task_laws.specs.legal.rewritten_types.Rewriting.{is_no_task}
 use Rattle.normal_laws.specs.structure.checked.Around.{own_rules}
-use Rattle.legal_programs.specs.alike_scopes.Alike.{Alike}
-use Rattle.legal_programs.specs.alike_scopes.Old.{IsOldWord, IsOldExpr, IsOldBounds, IsOldSubind, IsOldDrange, IsOldTarget, IsOldChoice, AreOldFormals, allows_task, IsOldDemand}
-use Rattle.legal_programs.specs.alike_scopes.Laws.{IsMetBut}
-use Rattle.legal_programs.proofs.alike_scopes.Demands.{alike_refuses_same}
-use Rattle.legal_programs.proofs.alike_scopes.Exprs.{exprs_are_same, dranges_are_same}
-use Rattle.legal_programs.proofs.alike_scopes.Selectors.{selectors_are_same, targets_are_same}
+use Rattle.task_laws.specs.legal.alike_scopes.Alike.{Alike}
+use Rattle.task_laws.specs.legal.alike_scopes.Old.{IsOldWord, IsOldExpr, IsOldBounds, IsOldSubind, IsOldDrange, IsOldTarget, IsOldChoice, AreOldFormals, allows_task, IsOldDemand}
+use Rattle.task_laws.specs.legal.alike_scopes.Laws.{IsMetBut}
+use Rattle.task_laws.proofs.legal.alike_scopes.Demands.{alike_refuses_same}
+use Rattle.task_laws.proofs.legal.alike_scopes.Exprs.{exprs_are_same, dranges_are_same}
+use Rattle.task_laws.proofs.legal.alike_scopes.Selectors.{selectors_are_same, targets_are_same}
 use Rattle.normal_laws.proofs.structure.typed.Places.{met-declares, met-labels}
 use Rattle.normal_laws.proofs.structure.typed.Variables.{AllMetBut}
 use Rattle.normal_laws.proofs.structure.typed.Calls.{as_family}

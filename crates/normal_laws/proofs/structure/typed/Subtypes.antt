@@ -13,7 +13,7 @@ use Rattle.ada_value.specs.Values.{limits_of, limits_named}
 use Rattle.ada_value.specs.Evaluating.{range_of}
 use Rattle.task_model.specs.Starting.{known_range}
 use Rattle.normal_model.specs.Ranges.{kind_of_range, kind_name, range_subtype, subtype_of_range}
-use Rattle.legal_programs.specs.types.Typed.{HasLimits}
+use Rattle.task_laws.specs.legal.types.Typed.{HasLimits}
 use Rattle.normal_laws.specs.structure.typed.ScopeOf.{HasKnownKinds, IsVariableOf, IsRange}
 
 abbrev fine : Limits → Result Limits Raised

@@ -16,7 +16,7 @@ use Rattle.ada_static_rules.specs.Sites.{site, expr_sites, condition_sites}
 use Rattle.ada_static_rules.specs.RuleMismatch.{is_misfit, misfit_operand}
 use Rattle.ada_static_rules.specs.RuleRangeBad.{is_fixed, raises}
 use Rattle.normal_model.specs.Waits.{not_held, none_held}
-use Rattle.legal_programs.specs.alike_scopes.Laws.{IsMetBut}
+use Rattle.task_laws.specs.legal.alike_scopes.Laws.{IsMetBut}
 use Rattle.normal_laws.specs.structure.typed.ScopeOf.{IsVariableOf}
 use Rattle.normal_laws.proofs.structure.typed.Places.{met-whole, met-node, met-of}
 use Rattle.normal_laws.proofs.structure.typed.Variables.{AllMetBut, of-kind, variable-kind, variable-changes, variable-met}

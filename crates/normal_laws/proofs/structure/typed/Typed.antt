@@ -33,17 +33,17 @@ use Rattle.normal_model.specs.RewrittenUnit.{RewrittenUnit}
 use Rattle.normal_model.specs.Waits.{head_left}
 use Rattle.normal_model.specs.Walk.{after_body}
 use Rattle.normal_model.specs.NormalStmts.{normal_rewriter, normal_body}
-use Rattle.legal_programs.specs.asked.Asked.{Asks, AskedBody}
-use Rattle.legal_programs.specs.asked.Kinds.{place_asks, type_asks, both}
-use Rattle.legal_programs.proofs.asked.Typed.{asked_typed}
+use Rattle.task_laws.specs.legal.asked.Asked.{Asks, AskedBody}
+use Rattle.task_laws.specs.legal.asked.Kinds.{place_asks, type_asks, both}
+use Rattle.task_laws.proofs.legal.asked.Typed.{asked_typed}
 use Rattle.normal_laws.specs.structure.asked.Pieces.{IsVariable, IsGuard, member_choice, IsAmong, IsPair, first_pair, later_pair, is_read, is_written, Pieces}
 use Rattle.normal_model.proofs.VariablesLemmas.{Begins}
 use Rattle.normal_laws.proofs.structure.asked.Walk.{body-keeps}
 use Rattle.normal_laws.proofs.structure.placed.Calls.{moves}
 use Rattle.normal_laws.specs.structure.checked.Around.{own_rules}
-use Rattle.legal_programs.specs.alike_scopes.Old.{IsOldExpr, IsOldChoice}
-use Rattle.legal_programs.specs.alike_scopes.Laws.{IsMetBut}
-use Rattle.legal_programs.proofs.alike_scopes.Selectors.{targets_are_same}
+use Rattle.task_laws.specs.legal.alike_scopes.Old.{IsOldExpr, IsOldChoice}
+use Rattle.task_laws.specs.legal.alike_scopes.Laws.{IsMetBut}
+use Rattle.task_laws.proofs.legal.alike_scopes.Selectors.{targets_are_same}
 use Rattle.normal_laws.specs.structure.typed.ScopeOf.{HasKnownKinds, IsVariableOf, IsMemberIn, IsArrayOf, IsScopeOf, IsPlaceOf, task_asks}
 use Rattle.normal_laws.proofs.structure.typed.Places.{met-whole, met-of, met-exception, met-chooses}
 use Rattle.normal_laws.proofs.structure.typed.Variables.{AllMetBut, of-kind, variable-kind, variable-met, assigned-met}

@@ -19,10 +19,10 @@ use Rattle.ada_static_rules.specs.RuleMismatch.{of_other_kind, no_value, target_
 use Rattle.ada_static_rules.specs.RuleNotVariable.{whole_written, is_variable, is_array}
 use Rattle.ada_static_rules.specs.RuleReadOut.{out_formal, read_out}
 use Rattle.ada_static_rules.specs.RuleArrayUse.{whole_array}
-use Rattle.legal_programs.specs.alike_scopes.Laws.{IsMetBut}
+use Rattle.task_laws.specs.legal.alike_scopes.Laws.{IsMetBut}
 use Rattle.normal_laws.specs.structure.typed.ScopeOf.{IsVariableOf}
 use Rattle.normal_laws.proofs.structure.typed.Places.{met-whole, met-node, met-of, met-writes, met-actual, met-declares}
-use Rattle.legal_programs.proofs.alike_scopes.Marks.{scalar-reading}
+use Rattle.task_laws.proofs.legal.alike_scopes.Marks.{scalar-reading}
 use Rattle.ada_tree.specs.declared.naming.Word.{Word}
 
 -- nothing is refused at places

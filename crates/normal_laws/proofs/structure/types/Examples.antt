@@ -16,8 +16,8 @@ use Rattle.syn_event.specs.AllNumbers.{all_numbers}
 use Rattle.ada_value.specs.declared.values.Value.TheVariants.{Number}
 use Rattle.task_model.specs.Starting.{objects_of}
 use Rattle.normal_model.specs.NormalTree.{normal_tree}
-use Rattle.legal_programs.specs.rewritten_types.Agreement.{Agrees}
-use Rattle.legal_programs.specs.rewritten_values.Values.{old_names}
+use Rattle.task_laws.specs.legal.rewritten_types.Agreement.{Agrees}
+use Rattle.task_laws.specs.legal.rewritten_values.Values.{old_names}
 use Rattle.normal_laws.specs.structure.types.Own.{own_name}
 use Rattle.normal_laws.specs.structure.types.Laws.{IsOrdered, AreOwn}
 use Rattle.normal_laws.proofs.structure.types.Normal.{normal_agrees}

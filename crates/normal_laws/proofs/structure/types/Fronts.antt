@@ -11,10 +11,10 @@ use Rattle.ada_static_rules.specs.RuleDuplicate.{is_predefined, is_among}
 use Rattle.ada_static_rules.specs.Declaring.{seen_as, first_scope, entry_part, task_thing, after_decl}
 use Rattle.syn_event.specs.NamedTasks.{type_named, with_type}
 use Rattle.normal_model.specs.NormalTree.{mark_of, unless_left, first_decls}
-use Rattle.legal_programs.specs.rewritten_types.Rewriting.{valued, Behind, behind_none, behind_task, behind_body, behind_instance, Front, front_none, front_stays, front_task, front_object, front_body, names_declared, IsUnused, DeclareOnce}
-use Rattle.legal_programs.specs.rewritten_types.Rewriting as rewriting
-use Rattle.legal_programs.proofs.rewritten_types.Fresh.{InHere, first-here, here-decl, unused-free, unused-all, IsTaken, taken-decl}
-use Rattle.legal_programs.proofs.rewritten_types.Refused.{declared_once}
+use Rattle.task_laws.specs.legal.rewritten_types.Rewriting.{valued, Behind, behind_none, behind_task, behind_body, behind_instance, Front, front_none, front_stays, front_task, front_object, front_body, names_declared, IsUnused, DeclareOnce}
+use Rattle.task_laws.specs.legal.rewritten_types.Rewriting as rewriting
+use Rattle.task_laws.proofs.legal.rewritten_types.Fresh.{InHere, first-here, here-decl, unused-free, unused-all, IsTaken, taken-decl}
+use Rattle.task_laws.proofs.legal.rewritten_types.Refused.{declared_once}
 use Rattle.normal_laws.specs.structure.types.Laws.{FirstDeclsAreFront}
 
 -- the mark of an object is the same in the words of both crates

@@ -4,7 +4,7 @@ use Rattle.std.proofs.lemmas.List.Elements.{All-from_recursion}
 use Rattle.ada_tree.specs.PlainExpr.{EInteger, RGiven}
 use Rattle.ada_tree.specs.Every.{Rules, EveryWord, EveryFormal, EveryEntry, EveryPriority}
 use Rattle.syn_event.proofs.Weaker.{placed_tokens}
-use Rattle.legal_programs.specs.rewritten_values.Values.{old_names}
+use Rattle.task_laws.specs.legal.rewritten_values.Values.{old_names}
 use Rattle.normal_laws.specs.structure.placed.Example.{nowhere, word, formal, entry, passing}
 use Rattle.normal_laws.proofs.structure.placed.Instance.{example_is_placeable}
 use Rattle.normal_laws.specs.structure.types.Own.{own_name}

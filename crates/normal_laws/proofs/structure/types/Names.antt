@@ -12,7 +12,7 @@ use Rattle.syn_event.specs.DeclaredTasks.{text_of}
 use Rattle.task_model.specs.Setting.{Setting}
 use Rattle.normal_model.specs.Names.{variable_text, member_texts, with_members, with_variables, normal_names, id_of, variable_name}
 use Rattle.normal_model.proofs.VariablesLemmas.{Begins, begins-refl, begins-more, begins-trans}
-use Rattle.legal_programs.proofs.rewritten_values.Saying.{place-within}
+use Rattle.task_laws.proofs.legal.rewritten_values.Saying.{place-within}
 use Rattle.normal_laws.specs.structure.types.Own.{own_name}
 use Rattle.normal_laws.specs.structure.types.Laws.{AddedNamesAreNew}
 

@@ -12,7 +12,7 @@ use Rattle.ada_tree.proofs.Interning.{nowhere}
 use Rattle.task_model.specs.Setting.{Setting}
 use Rattle.normal_model.specs.Names.{member_texts, variable_text, with_members, with_variables, normal_names}
 use Rattle.normal_model.proofs.VariablesLemmas.{Begins}
-use Rattle.legal_programs.proofs.rewritten_values.Saying.{place-within}
+use Rattle.task_laws.proofs.legal.rewritten_values.Saying.{place-within}
 
 -- ---- no text has two ids
 

@@ -18,16 +18,16 @@ use Rattle.task_model.specs.Starting.{value_count, declared_objects, after_decla
 use Rattle.normal_model.specs.Names.{variable_name}
 use Rattle.normal_model.specs.Ranges.{word_at, marked}
 use Rattle.normal_model.specs.NormalTree.{mark_of, unless_left, decls_front, first_decls, tasks_beside, task_declared, bodies_of, main_unit, main_variables, variables_needed, normal_tree}
-use Rattle.legal_programs.specs.rewritten_types.Agreement.{Rooted}
-use Rattle.legal_programs.specs.rewritten_types.Rewriting.{IsAdded, AreAdded}
-use Rattle.legal_programs.specs.rewritten_types.Laws.{behind}
-use Rattle.legal_programs.proofs.rewritten_types.Rooting.{rewritten_is_rooted, rooted_agrees}
-use Rattle.legal_programs.proofs.rewritten_types.Refused.{declared_once}
-use Rattle.legal_programs.specs.rewritten_values.Values.{AgreeOnValues, old_names}
-use Rattle.legal_programs.proofs.rewritten_values.Saying.{tables_agree_on_values, values-alike}
-use Rattle.legal_programs.proofs.rewritten_values.Named.{literals_are_named}
-use Rattle.legal_programs.proofs.rewritten_values.Objects.{unit-alike, form-alike, marked_has_form}
-use Rattle.legal_programs.proofs.rewritten_values.Staying.{objects_stay}
+use Rattle.task_laws.specs.legal.rewritten_types.Agreement.{Rooted}
+use Rattle.task_laws.specs.legal.rewritten_types.Rewriting.{IsAdded, AreAdded}
+use Rattle.task_laws.specs.legal.rewritten_types.Laws.{behind}
+use Rattle.task_laws.proofs.legal.rewritten_types.Rooting.{rewritten_is_rooted, rooted_agrees}
+use Rattle.task_laws.proofs.legal.rewritten_types.Refused.{declared_once}
+use Rattle.task_laws.specs.legal.rewritten_values.Values.{AgreeOnValues, old_names}
+use Rattle.task_laws.proofs.legal.rewritten_values.Saying.{tables_agree_on_values, values-alike}
+use Rattle.task_laws.proofs.legal.rewritten_values.Named.{literals_are_named}
+use Rattle.task_laws.proofs.legal.rewritten_values.Objects.{unit-alike, form-alike, marked_has_form}
+use Rattle.task_laws.proofs.legal.rewritten_values.Staying.{objects_stay}
 use Rattle.normal_laws.specs.structure.types.Own.{own_name}
 use Rattle.normal_laws.specs.structure.types.Laws.{setting_of, NormalIsRooted, NormalAgrees, NormalValues, MainObjects, BodyObjects, VariableIsObject}
 use Rattle.normal_laws.proofs.structure.types.Names.{names-begin, added_names_are_new}

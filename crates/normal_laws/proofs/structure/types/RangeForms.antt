@@ -16,13 +16,13 @@ use Rattle.ada_value.specs.Values.{limits_of, limits_or, limits_named}
 use Rattle.ada_value.specs.Evaluating.{bounds_of, narrowed}
 use Rattle.task_model.specs.Starting.{known_range, marked_form, plain_form, form_of}
 use Rattle.normal_model.specs.Ranges.{word_at, kind_name, range_subtype}
-use Rattle.legal_programs.specs.rewritten_types.Agreement.{IsScalar, scalar_only}
-use Rattle.legal_programs.specs.rewritten_types.Laws.{IsNamedKind}
-use Rattle.legal_programs.proofs.rewritten_types.Refused.{declared_once}
-use Rattle.legal_programs.proofs.rewritten_types.NamedKinds.{kinds_are_named}
-use Rattle.legal_programs.specs.rewritten_values.Values.{is_known}
-use Rattle.legal_programs.proofs.rewritten_values.Saying.{known-scalar}
-use Rattle.legal_programs.proofs.rewritten_values.Objects.{form-alike, no-index}
+use Rattle.task_laws.specs.legal.rewritten_types.Agreement.{IsScalar, scalar_only}
+use Rattle.task_laws.specs.legal.rewritten_types.Laws.{IsNamedKind}
+use Rattle.task_laws.proofs.legal.rewritten_types.Refused.{declared_once}
+use Rattle.task_laws.proofs.legal.rewritten_types.NamedKinds.{kinds_are_named}
+use Rattle.task_laws.specs.legal.rewritten_values.Values.{is_known}
+use Rattle.task_laws.proofs.legal.rewritten_values.Saying.{known-scalar}
+use Rattle.task_laws.proofs.legal.rewritten_values.Objects.{form-alike, no-index}
 use Rattle.normal_laws.specs.structure.types.Own.{own_name}
 use Rattle.normal_laws.specs.structure.types.Laws.{RangeForms}
 use Rattle.normal_laws.proofs.structure.types.Normal.{normal_agrees}

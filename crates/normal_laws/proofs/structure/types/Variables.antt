@@ -14,7 +14,7 @@ use Rattle.normal_model.specs.RewrittenUnit.{RewrittenUnit}
 use Rattle.normal_model.specs.Variables.{variable_declared, variables_declared, more_variables, statement_variables}
 use Rattle.normal_model.specs.NormalStmts.{normal_rewriter, unit_variables}
 use Rattle.normal_model.specs.NormalTree.{tasks_beside, task_under, declared_under, task_declared, bodies_of}
-use Rattle.legal_programs.specs.rewritten_types.Rewriting.{IsAdded, AreAdded}
+use Rattle.task_laws.specs.legal.rewritten_types.Rewriting.{IsAdded, AreAdded}
 use Rattle.normal_laws.proofs.structure.types.Walking.{body-keeps}
 use Rattle.common_lemmas.proofs.Lists.{all_joined}
 

@@ -15,10 +15,10 @@ use Rattle.syn_event.specs.Extents.{extent}
 use Rattle.syn_event.specs.NamedTasks.{NamedTasks, named_tasks, type_named, task_names_of_type, object_task_names, with_type, single_task_name, task_names_in, task_names_of, NumberedTask, numbered_task, indices, tasks_of_range, tasks_of_name, numbered_tasks}
 use Rattle.syn_event.specs.AllNumbers.{info_of_task}
 use Rattle.syn_event.specs.DeclaredTasks.{decl_list, tasks_in, tasks_of}
-use Rattle.legal_programs.specs.rewritten_types.Rewriting.{DeclareOnce}
-use Rattle.legal_programs.proofs.rewritten_types.Lookups.{find-all}
-use Rattle.legal_programs.proofs.rewritten_types.Fresh.{IsTaken, taken-decl, unused-others}
-use Rattle.legal_programs.proofs.rewritten_types.Refused.{declared_once}
+use Rattle.task_laws.specs.legal.rewritten_types.Rewriting.{DeclareOnce}
+use Rattle.task_laws.proofs.legal.rewritten_types.Lookups.{find-all}
+use Rattle.task_laws.proofs.legal.rewritten_types.Fresh.{IsTaken, taken-decl, unused-others}
+use Rattle.task_laws.proofs.legal.rewritten_types.Refused.{declared_once}
 use Rattle.normal_laws.proofs.structure.types.Variables.{all-mapped}
 use Rattle.normal_laws.proofs.structure.types.Fronts.{task-taken}
 use Rattle.normal_laws.specs.structure.units.Laws.{count_named, UnitsAreDeclared}

@@ -15,9 +15,9 @@ use Rattle.syn_event.specs.declared.numbering.TaskInfo.{TaskInfo}
 use Rattle.syn_event.specs.Extents.{extent}
 use Rattle.syn_event.specs.NamedTasks.{NamedTasks, named_tasks, type_named, task_names_of_type, object_task_names, with_type, single_task_name, task_names_in, task_names_of, NumberedTask, numbered_task, indices, tasks_of_range, tasks_of_name, numbered_tasks}
 use Rattle.syn_event.specs.AllNumbers.{info_of_task}
-use Rattle.legal_programs.specs.rewritten_types.Rewriting.{IsUsed, IsUnused, DeclareOnce}
-use Rattle.legal_programs.proofs.rewritten_types.Fresh.{other, used-more}
-use Rattle.legal_programs.proofs.rewritten_types.Refused.{declared_once}
+use Rattle.task_laws.specs.legal.rewritten_types.Rewriting.{IsUsed, IsUnused, DeclareOnce}
+use Rattle.task_laws.proofs.legal.rewritten_types.Fresh.{other, used-more}
+use Rattle.task_laws.proofs.legal.rewritten_types.Refused.{declared_once}
 use Rattle.normal_laws.proofs.structure.types.Variables.{all-mapped}
 use Rattle.normal_laws.specs.structure.units.Laws.{NamesTellUnits}
 use Rattle.common_lemmas.proofs.Lists.{all_joined, all_weaker}

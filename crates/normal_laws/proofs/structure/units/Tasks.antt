@@ -16,7 +16,7 @@ use Rattle.task_model.specs.Setting.{Setting, unit_named, formals_in, formals_of
 use Rattle.normal_model.specs.Names.{task_name}
 use Rattle.normal_model.specs.NormalTree.{mark_of, unless_left, decls_front, first_decls, tasks_beside, task_under, declared_under, task_declared, bodies_of, main_unit, main_variables, normal_tree}
 use Rattle.normal_laws.specs.structure.types.Laws.{setting_of}
-use Rattle.legal_programs.proofs.rewritten_types.Lookups.{place-all}
+use Rattle.task_laws.proofs.legal.rewritten_types.Lookups.{place-all}
 use Rattle.normal_laws.proofs.structure.types.Variables.{all-flat, all-mapped, unit-all}
 use Rattle.normal_laws.specs.structure.units.Laws.{count_named, TasksKeepNumbers, EntriesKeepFormals}
 use Rattle.common_lemmas.proofs.Options.{some_same}

@@ -18,7 +18,7 @@ use Rattle.normal_model.specs.Waits.{head_of}
 use Rattle.normal_laws.specs.runs.forms.Choosing.{choosing}
 use Rattle.normal_laws.specs.runs.forms.Normalisable.{numbers_of, setting_for}
 use Rattle.normal_laws.specs.existence.Laws.{IsLegalOriginal}
-use Rattle.legal_programs.specs.literals.Colours.{coloured}
+use Rattle.task_laws.specs.legal.literals.Colours.{coloured}
 
 -- An accept of the task t has the formals of its entry: their names, modes and subtypes (9.5).
 abbrev pub HasFormals : Setting → ℕ → PHead → Type 0

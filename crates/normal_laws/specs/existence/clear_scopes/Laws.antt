@@ -9,8 +9,8 @@ use Rattle.syn_event.specs.declared.numbering.Mode.TheVariants.{Original}
 use Rattle.syn_event.specs.Numbering.{Numbering}
 use Rattle.syn_event.specs.Legal.{Legal}
 use Rattle.ada_tree.specs.TypeTable.{TypeTable}
-use Rattle.legal_programs.specs.sites.Met.{IsAddressed}
-use Rattle.legal_programs.specs.types.Typed.{IsSmall}
+use Rattle.task_laws.specs.legal.sites.Met.{IsAddressed}
+use Rattle.task_laws.specs.legal.types.Typed.{IsSmall}
 use Rattle.normal_laws.specs.existence.variable_types.Ready.{IsReady}
 
 -- At each place of a well placed program that meets the rules on types, and whose enumerations are small, the name of a callee is none whose

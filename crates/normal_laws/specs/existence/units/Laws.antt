@@ -17,7 +17,7 @@ use Rattle.task_laws.specs.invariants.AcceptHeads.{InBody}
 use Rattle.task_laws.specs.invariants.Worlds.{Conforms, IsWellMade}
 use Rattle.normal_laws.specs.structure.types.Laws.{IsOrdered, AreOwn}
 use Rattle.normal_laws.specs.runs.runs.Premises.{programs_of, objects_before}
-use Rattle.legal_programs.specs.types.Typed.{IsSmall}
+use Rattle.task_laws.specs.legal.types.Typed.{IsSmall}
 use Rattle.normal_laws.specs.existence.units.Weights.{IsLight}
 use Rattle.normal_laws.specs.runs.forms.Normalisable.{numbers_of, setting_for, variables_of, normal_rewrite, NamesTell, IsPlain}
 

@@ -14,14 +14,14 @@ use Rattle.syn_event.specs.Legal.{Legal}
 use Rattle.ada_value.specs.Values.{integer_limits, truth_limits}
 use Rattle.task_model.specs.Setting.{is_family, family_limits, formals_of_info}
 use Rattle.normal_model.specs.Ranges.{integer_subtype, truth_subtype, subtype_of_range, family_range}
-use Rattle.legal_programs.specs.rewritten_values.Values.{old_names}
+use Rattle.task_laws.specs.legal.rewritten_values.Values.{old_names}
 use Rattle.normal_laws.specs.structure.types.Own.{own_name}
 use Rattle.normal_laws.specs.runs.floors.Suited.{SameRange, declared_limits, AreMarked}
 use Rattle.normal_laws.specs.runs.runs.Premises.{programs_of}
 use Rattle.normal_laws.specs.runs.forms.Choosing.{choosing}
 use Rattle.normal_laws.specs.runs.forms.Normalisable.{numbers_of, setting_for, made_for, variables_of, normal_rewrite, IsScalar}
-use Rattle.legal_programs.specs.types.Typed.{IsSmall}
-use Rattle.legal_programs.specs.literals.Colours.{coloured}
+use Rattle.task_laws.specs.legal.types.Typed.{IsSmall}
+use Rattle.task_laws.specs.legal.literals.Colours.{coloured}
 use Rattle.normal_laws.specs.existence.variable_types.Ready.{IsReady}
 
 -- A legal program is so, where it is well placed, has the names of every program and small enumerations, and the names in it are its own.

@@ -2,10 +2,10 @@
 use Rattle.ada_tree.specs.NameList.{AreNames}
 use Rattle.ada_tree.specs.PlainProgram.{PProgram}
 use Rattle.ada_tree.specs.Every.{EveryProgram}
-use Rattle.legal_programs.specs.rewritten_values.Values.{old_names}
+use Rattle.task_laws.specs.legal.rewritten_values.Values.{old_names}
 use Rattle.normal_laws.specs.structure.types.Own.{own_name}
 use Rattle.normal_laws.specs.structure.types.Laws.{IsOrdered}
-use Rattle.legal_programs.specs.types.Typed.{HasTypedTasks}
+use Rattle.task_laws.specs.legal.types.Typed.{HasTypedTasks}
 
 -- What the subtypes of added variables hang on: the rules on types with bodies last, names, and the types of tasks.
 pub record IsReady (p : PProgram) : Type 0 where

@@ -4,7 +4,7 @@ use Rattle.syn_event.specs.declared.numbering.Mode.TheVariants.{Any}
 use Rattle.syn_event.specs.CheckRefusals.{MeetsCheckRules}
 use Rattle.normal_laws.specs.runs.forms.Choosing.{choosing}
 use Rattle.normal_laws.specs.runs.forms.Normalisable.{made_for}
-use Rattle.legal_programs.specs.literals.Colours.{coloured}
+use Rattle.task_laws.specs.legal.literals.Colours.{coloured}
 use Rattle.normal_laws.specs.existence.Laws.{IsLegalOriginal}
 
 -- The rules 13 to 23 refuse nothing in the normal form of a legal program, as a text of any kind (this project's rule).

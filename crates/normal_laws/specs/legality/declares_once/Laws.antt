@@ -4,7 +4,7 @@ use Rattle.ada_tree.specs.PlainProgram.{PProgram}
 use Rattle.ada_static_rules.specs.Sites.{sites}
 use Rattle.normal_laws.specs.runs.forms.Choosing.{choosing}
 use Rattle.normal_laws.specs.runs.forms.Normalisable.{made_for}
-use Rattle.legal_programs.specs.literals.Colours.{coloured}
+use Rattle.task_laws.specs.legal.literals.Colours.{coloured}
 use Rattle.normal_laws.specs.existence.Laws.{IsLegalOriginal}
 use Rattle.normal_laws.specs.structure.once.Once.{AllOnce}
 

@@ -13,8 +13,8 @@ use Rattle.normal_laws.specs.structure.units.Laws.{numbers_made}
 use Rattle.normal_laws.specs.structure.numbers.Laws.{NoneIsDed}
 use Rattle.normal_laws.specs.runs.forms.Choosing.{choosing}
 use Rattle.normal_laws.specs.runs.forms.Normalisable.{numbers_of, made_for}
-use Rattle.legal_programs.specs.types.Typed.{IsSmall}
-use Rattle.legal_programs.specs.literals.Colours.{coloured}
+use Rattle.task_laws.specs.legal.types.Typed.{IsSmall}
+use Rattle.task_laws.specs.legal.literals.Colours.{coloured}
 
 -- In a legal original that is well placed no array of tasks is named DED (this project's rule).
 abbrev pub NoneLegalIsDed : Type 0

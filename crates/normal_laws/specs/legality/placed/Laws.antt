@@ -4,7 +4,7 @@ use Rattle.ada_tree.specs.WellPlaced.{IsWellPlaced}
 use Rattle.normal_laws.specs.runs.forms.Choosing.{choosing}
 use Rattle.normal_laws.specs.runs.forms.Normalisable.{setting_for, made_for}
 use Rattle.normal_laws.specs.structure.placed.Placeable.{HasRoom}
-use Rattle.legal_programs.specs.literals.Colours.{coloured}
+use Rattle.task_laws.specs.legal.literals.Colours.{coloured}
 use Rattle.normal_laws.specs.existence.Laws.{IsLegalOriginal}
 
 -- Each legal program has room for its normal form: few variables, small indices of members, and actuals for formals alone (this project's rule).

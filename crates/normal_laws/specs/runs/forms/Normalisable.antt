@@ -21,7 +21,7 @@ use Rattle.normal_model.specs.Names.{task_name}
 use Rattle.normal_model.specs.Ranges.{integer_subtype, truth_subtype, subtype_of_range, family_range}
 use Rattle.normal_model.specs.NormalTree.{tasks_beside, first_running, main_variables, normal_tree}
 use Rattle.normal_model.specs.NormalStmts.{unit_variables}
-use Rattle.legal_programs.specs.rewritten_values.Values.{is_known}
+use Rattle.task_laws.specs.legal.rewritten_values.Values.{is_known}
 use Rattle.normal_laws.specs.structure.types.Own.{own_name}
 use Rattle.normal_laws.specs.structure.types.Laws.{IsOrdered, setting_of, AreOwn}
 use Rattle.normal_laws.specs.structure.units.Laws.{numbers_made}

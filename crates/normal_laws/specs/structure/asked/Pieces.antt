@@ -27,7 +27,7 @@ use Rattle.normal_model.specs.Waits.{head_left, none_held}
 use Rattle.normal_model.specs.Variables.{variable_declared}
 use Rattle.normal_model.specs.Walk.{inside_alts, inside_handlers}
 use Rattle.normal_model.specs.NormalStmts.{normal_rewriter}
-use Rattle.legal_programs.specs.asked.Asked.{Asks, AskedAlts}
+use Rattle.task_laws.specs.legal.asked.Asked.{Asks, AskedAlts}
 
 -- ---- statements that stay
 

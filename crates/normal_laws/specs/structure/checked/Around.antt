@@ -18,8 +18,8 @@ use Rattle.syn_event.specs.RuleSharedVariable.{shared_variable}
 use Rattle.task_model.specs.Setting.{Setting}
 use Rattle.normal_model.specs.Names.{variable_name, task_name}
 use Rattle.normal_model.specs.NormalTree.{tasks_beside}
-use Rattle.legal_programs.specs.asked.Asked.{Asks}
-use Rattle.legal_programs.specs.asked.Kinds.{no_asks}
+use Rattle.task_laws.specs.legal.asked.Asked.{Asks}
+use Rattle.task_laws.specs.legal.asked.Kinds.{no_asks}
 use Rattle.normal_laws.specs.structure.asked.Pieces.{IsAmong, IsTarget}
 
 -- each name is one of the program's own, and each list has as many parts as the grammar asks at least

@@ -17,8 +17,8 @@ use Rattle.ada_tree.specs.WellPlaced.{IsWellPlaced}
 use Rattle.syn_event.specs.declared.numbering.Mode.TheVariants.{Original}
 use Rattle.syn_event.specs.CheckRefusals.{MeetsCheckRules}
 use Rattle.syn_event.specs.DeclaredTasks.{decl_list}
-use Rattle.legal_programs.specs.asked.Asked.{Asks, AskedBody}
-use Rattle.legal_programs.specs.asked.Kinds.{no_asks}
+use Rattle.task_laws.specs.legal.asked.Asked.{Asks, AskedBody}
+use Rattle.task_laws.specs.legal.asked.Kinds.{no_asks}
 use Rattle.normal_laws.specs.structure.asked.Pieces.{IsAmong}
 
 -- the id is that of a text that the source can hold as a name

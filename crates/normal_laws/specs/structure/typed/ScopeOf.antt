@@ -21,19 +21,19 @@ use Rattle.ada_value.specs.Evaluating.{range_of}
 use Rattle.syn_event.specs.declared.numbering.TaskInfo.{TaskInfo}
 use Rattle.syn_event.specs.Numbering.{task_named, entry_at}
 use Rattle.task_model.specs.Setting.{Setting, entry_of, is_family, formals_of_info}
-use Rattle.legal_programs.specs.rewritten_types.Agreement.{IsScalar}
-use Rattle.legal_programs.specs.sites.Met.{IsMet, IsAddressed}
-use Rattle.legal_programs.specs.types.Typed.{HasLimits}
-use Rattle.legal_programs.specs.literals.Literals.{HasIndexLiterals}
+use Rattle.task_laws.specs.legal.rewritten_types.Agreement.{IsScalar}
+use Rattle.task_laws.specs.legal.sites.Met.{IsMet, IsAddressed}
+use Rattle.task_laws.specs.legal.types.Typed.{HasLimits}
+use Rattle.task_laws.specs.legal.literals.Literals.{HasIndexLiterals}
 use Rattle.normal_model.specs.Names.{variable_name, task_name}
 use Rattle.normal_model.specs.Ranges.{kind_name, array_range, family_range}
 use Rattle.normal_model.specs.Members.{members_of}
 use Rattle.normal_model.specs.Calls.{Slot, slots_of}
 use Rattle.normal_model.specs.RewrittenUnit.{RewrittenUnit}
 use Rattle.normal_model.specs.NormalTree.{tasks_beside}
-use Rattle.legal_programs.specs.asked.Asked.{Asks}
+use Rattle.task_laws.specs.legal.asked.Asked.{Asks}
 use Rattle.normal_laws.specs.structure.asked.Pieces.{IsVariable, IsAmong, IsTarget}
-use Rattle.legal_programs.specs.alike_scopes.Alike.{Alike}
+use Rattle.task_laws.specs.legal.alike_scopes.Alike.{Alike}
 
 -- ---- types
 

@@ -23,10 +23,10 @@ use Rattle.normal_model.specs.Names.{variable_name}
 use Rattle.normal_model.specs.Ranges.{marked, range_subtype}
 use Rattle.normal_model.specs.Variables.{variable_declared}
 use Rattle.normal_model.specs.NormalTree.{decls_front, first_decls, main_variables, normal_tree}
-use Rattle.legal_programs.specs.rewritten_types.Agreement.{Rooted, Agrees}
-use Rattle.legal_programs.specs.rewritten_types.Rewriting.{Front}
-use Rattle.legal_programs.specs.rewritten_types.Laws.{behind}
-use Rattle.legal_programs.specs.rewritten_values.Values.{AgreeOnValues, is_known, old_names}
+use Rattle.task_laws.specs.legal.rewritten_types.Agreement.{Rooted, Agrees}
+use Rattle.task_laws.specs.legal.rewritten_types.Rewriting.{Front}
+use Rattle.task_laws.specs.legal.rewritten_types.Laws.{behind}
+use Rattle.task_laws.specs.legal.rewritten_values.Values.{AgreeOnValues, is_known, old_names}
 use Rattle.normal_laws.specs.structure.types.Own.{own_name}
 
 -- The program meets the static rules, and behind the first body no types and objects stand (3.9).

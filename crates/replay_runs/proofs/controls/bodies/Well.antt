@@ -15,9 +15,9 @@ use Rattle.syn_event.proofs.Weaker.{placed_tokens}
 use Rattle.task_model.specs.Starting.{unit_of}
 use Rattle.task_laws.specs.invariants.AcceptHeads.{InBody}
 use Rattle.task_laws.specs.invariants.Worlds.{Conforms}
-use Rattle.legal_programs.specs.types.Typed.{IsSmallKind, IsSmall}
-use Rattle.legal_programs.specs.rewritten_types.Agreement.{scalar_only, Agrees}
-use Rattle.legal_programs.proofs.types.TaskTypes.{tasks-have-types}
+use Rattle.task_laws.specs.legal.types.Typed.{IsSmallKind, IsSmall}
+use Rattle.task_laws.specs.legal.rewritten_types.Agreement.{scalar_only, Agrees}
+use Rattle.task_laws.proofs.legal.types.TaskTypes.{tasks-have-types}
 use Rattle.normal_laws.specs.structure.types.Own.{own_name}
 use Rattle.normal_laws.proofs.legality.checks.Facts as facts
 use Rattle.normal_laws.specs.runs.forms.Normalisable.{numbers_of}
@@ -27,9 +27,9 @@ use Rattle.normal_laws.proofs.existence.units.Lowers.{lowers}
 use Rattle.normal_laws.proofs.existence.units.TypedNames.{formals-worth}
 use Rattle.replay_model.specs.Promised.{IsReplayText}
 use Rattle.replay_structure.proofs.texts.Rooted.{replay_agrees}
-use Rattle.replay_is_legal.specs.Laws.{text_for}
-use Rattle.replay_is_legal.specs.known.Laws.{AreKnown}
-use Rattle.replay_is_legal.proofs.names.Legal.{replay_is_as_promised}
+use Rattle.replay_structure.specs.legal.Laws.{text_for}
+use Rattle.replay_structure.specs.legal.known.Laws.{AreKnown}
+use Rattle.replay_structure.proofs.legal.names.Legal.{replay_is_as_promised}
 use Rattle.replay_runs.specs.controls.bodies.Laws.{LegalIsWellMade}
 use Rattle.replay_runs.proofs.controls.replayed.Numbers.{text_numbers, text-has-numbers}
 

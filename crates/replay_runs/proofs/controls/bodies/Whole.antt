@@ -5,7 +5,7 @@ use Rattle.ada_static_rules.specs.Refusals.{types_in}
 use Rattle.syn_event.specs.AllNumbers.{all_numbers}
 use Rattle.replay_model.specs.Names.{replay_names}
 use Rattle.replay_model.specs.ReplayTree.{script_of}
-use Rattle.replay_is_legal.proofs.names.kept_names.Instance as example
+use Rattle.replay_structure.proofs.legal.names.kept_names.Instance as example
 use Rattle.replay_runs.specs.starts.Laws.{form_in}
 use Rattle.replay_runs.proofs.starts.Bodies.{legal_runs}
 use Rattle.replay_runs.specs.controls.Laws.{control_number}

@@ -35,17 +35,17 @@ use Rattle.syn_event.specs.CheckSites as check
 use Rattle.syn_event.specs.NamedTasks.{NumberedTask, numbered_tasks}
 use Rattle.syn_event.specs.Numbering.{entry_at}
 use Rattle.task_model.specs.Setting.{Setting, entry_of, family_limits, index_in, member_index}
-use Rattle.legal_programs.specs.sites.Met.{IsMet, IsCheckMet}
-use Rattle.legal_programs.proofs.types.MainScopes.{StandsWhole}
-use Rattle.legal_programs.proofs.types.BodyScopes.{expr-worth}
-use Rattle.legal_programs.proofs.types.StaticWorth.{small-literals}
+use Rattle.task_laws.specs.legal.sites.Met.{IsMet, IsCheckMet}
+use Rattle.task_laws.proofs.legal.types.MainScopes.{StandsWhole}
+use Rattle.task_laws.proofs.legal.types.BodyScopes.{expr-worth}
+use Rattle.task_laws.proofs.legal.types.StaticWorth.{small-literals}
 use Rattle.normal_laws.proofs.structure.entries.Entries.{entry_in, IsTaskOf, HasEntry, entry-there}
-use Rattle.legal_programs.proofs.rewritten_types.Lookups.{place-all}
-use Rattle.legal_programs.specs.rewritten_values.Values.{is_known}
+use Rattle.task_laws.proofs.legal.rewritten_types.Lookups.{place-all}
+use Rattle.task_laws.specs.legal.rewritten_values.Values.{is_known}
 use Rattle.task_laws.specs.translation.Translations.{Programs}
 use Rattle.task_laws.specs.translation.OldNames.{OldExpr}
-use Rattle.legal_programs.specs.asked.Asked.{Asks, AskedBody}
-use Rattle.legal_programs.specs.asked.Kinds.{no_asks, place_asks, type_asks, check_asks, both}
+use Rattle.task_laws.specs.legal.asked.Asked.{Asks, AskedBody}
+use Rattle.task_laws.specs.legal.asked.Kinds.{no_asks, place_asks, type_asks, check_asks, both}
 use Rattle.normal_model.specs.Making.{moving, variable}
 use Rattle.normal_model.specs.Calls.{first_named}
 use Rattle.normal_model.specs.NormalTree.{tasks_beside}

@@ -20,16 +20,16 @@ use Rattle.ada_value.specs.declared.values.Raised.{Raised}
 use Rattle.syn_event.specs.Numbering.{Numbering, task_named, entry_at, entry_named}
 use Rattle.task_model.specs.Setting.{Setting, entry_of, is_family, lists_in, lists_of}
 use Rattle.task_laws.specs.statements.Each.{Loops, InBody}
-use Rattle.legal_programs.proofs.types.StaticWorth.{named-alike}
+use Rattle.task_laws.proofs.legal.types.StaticWorth.{named-alike}
 use Rattle.normal_laws.proofs.structure.entries.Entries.{HasEntry}
-use Rattle.legal_programs.specs.rewritten_types.Agreement.{Agrees}
+use Rattle.task_laws.specs.legal.rewritten_types.Agreement.{Agrees}
 use Rattle.task_laws.specs.translation.Translations.{Programs}
 use Rattle.task_laws.specs.translation.OldNames.{OldExpr, old_integer, old_name, old_index, old_attribute, old_attribute_of, old_paren, old_unary, old_binary}
 use Rattle.task_laws.specs.translation.Scopes.{SeeAlike, no_object}
 use Rattle.task_laws.proofs.translation.Results.{Both, both_ok, both_err}
 use Rattle.task_laws.proofs.translation.Evaluating.{KnownValue, known_value, value-alike}
-use Rattle.legal_programs.specs.asked.Asked.{Asks, AskedStmt, AskedAlts}
-use Rattle.legal_programs.specs.asked.Kinds.{no_asks}
+use Rattle.task_laws.specs.legal.asked.Asked.{Asks, AskedStmt, AskedAlts}
+use Rattle.task_laws.specs.legal.asked.Kinds.{no_asks}
 use Rattle.normal_model.specs.Making.{moving, index_left, kept_subtypes, kept_if, variable}
 use Rattle.normal_model.specs.Ranges.{subtype_of_range, family_range, marked}
 use Rattle.normal_model.specs.Members.{callee_kept}
@@ -45,7 +45,7 @@ use Rattle.normal_laws.proofs.structure.types.Normal.{normal_agrees}
 use Rattle.normal_laws.specs.runs.floors.Suited.{HasLists, no_lists, plain_lists, family_lists, rewritten_unit}
 use Rattle.normal_laws.specs.runs.runs.Premises.{Rewrite, programs_of, unit_at, unit_before}
 use Rattle.normal_laws.specs.runs.forms.Normalisable.{numbers_of, setting_for, made_for, variables_of, first_task, normal_rewrite}
-use Rattle.replay_is_legal.proofs.fits.Counted.{tasks-within, entries-within}
+use Rattle.replay_structure.proofs.legal.fits.Counted.{tasks-within, entries-within}
 use Rattle.normal_laws.specs.structure.asked.Pieces.{IsVariable, AreVariables, IsTarget, Pieces, IsGuard}
 use Rattle.normal_laws.proofs.structure.asked.CallVariables.{family-there, actuals-there}
 use Rattle.normal_laws.proofs.structure.asked.Walk.{body-keeps}
@@ -55,7 +55,7 @@ use Rattle.normal_laws.proofs.existence.Joined.{legal_is_normal}
 use Rattle.normal_laws.proofs.existence.units.Fields.{legal_is_ordered}
 use Rattle.normal_laws.proofs.existence.statements.Asked.{body-each}
 use Rattle.replay_structure.specs.typed.ScopeOf.{has_accept}
-use Rattle.replay_is_legal.proofs.names.form_units.Entries.{place-of, named-number}
+use Rattle.replay_structure.proofs.legal.names.form_units.Entries.{place-of, named-number}
 use Rattle.replay_runs.specs.starts.Laws.{form_in}
 use Rattle.replay_runs.specs.controls.permits.Laws.{FitsInteger}
 use Rattle.replay_runs.specs.controls.formed.Laws.{NamesTask, NamesEntry, IsIndex, no_index, variable_index, static_index, IsCallFormed, IsHeadFormed, AreHeadsFormed, AbortsOne, IsFormed, IsAddedVariable, AreGuardsFormed}

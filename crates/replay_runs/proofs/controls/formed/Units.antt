@@ -27,19 +27,19 @@ use Rattle.syn_event.specs.RuleAcceptPlace.{is_own_entry, is_among, accept_place
 use Rattle.syn_event.specs.DeclaredTasks.{tasks_of}
 use Rattle.task_model.specs.Setting.{Setting}
 use Rattle.task_model.specs.Starting.{Unit as OneUnit, unit_among, unit_of_info}
-use Rattle.legal_programs.specs.sites.Met.{IsMet, IsCheckMet}
-use Rattle.legal_programs.proofs.sites.Meeting.{all_met, all_check_met}
-use Rattle.legal_programs.proofs.types.MainScopes.{StandsWhole}
+use Rattle.task_laws.specs.legal.sites.Met.{IsMet, IsCheckMet}
+use Rattle.task_laws.proofs.legal.sites.Meeting.{all_met, all_check_met}
+use Rattle.task_laws.proofs.legal.types.MainScopes.{StandsWhole}
 use Rattle.normal_laws.proofs.structure.entries.Lists.{found-place}
 use Rattle.normal_laws.proofs.structure.entries.Entries.{IsTaskOf}
-use Rattle.legal_programs.proofs.rewritten_types.Lookups.{find-all, place-all}
-use Rattle.legal_programs.proofs.rewritten_types.Refused.{declared_once}
-use Rattle.legal_programs.specs.asked.Asked.{AskedBody}
-use Rattle.legal_programs.specs.asked.Kinds.{place_asks, type_asks, check_asks, both}
-use Rattle.legal_programs.proofs.asked.Placed.{placed_asked}
-use Rattle.legal_programs.proofs.asked.Typed.{typed_asked}
-use Rattle.legal_programs.proofs.asked.Checked.{checked_asked}
-use Rattle.legal_programs.proofs.asked.Together.{both_asked}
+use Rattle.task_laws.proofs.legal.rewritten_types.Lookups.{find-all, place-all}
+use Rattle.task_laws.proofs.legal.rewritten_types.Refused.{declared_once}
+use Rattle.task_laws.specs.legal.asked.Asked.{AskedBody}
+use Rattle.task_laws.specs.legal.asked.Kinds.{place_asks, type_asks, check_asks, both}
+use Rattle.task_laws.proofs.legal.asked.Placed.{placed_asked}
+use Rattle.task_laws.proofs.legal.asked.Typed.{typed_asked}
+use Rattle.task_laws.proofs.legal.asked.Checked.{checked_asked}
+use Rattle.task_laws.proofs.legal.asked.Together.{both_asked}
 use Rattle.task_laws.specs.translation.Translations.{Programs}
 use Rattle.normal_laws.specs.runs.runs.Premises.{programs_of, unit_before}
 use Rattle.normal_laws.specs.runs.forms.Normalisable.{numbers_of, setting_for, first_for, first_task, normal_rewrite}

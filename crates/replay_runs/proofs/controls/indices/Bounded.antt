@@ -29,10 +29,10 @@ use Rattle.ada_value.specs.declared.values.Limits.{Limits}
 use Rattle.ada_value.specs.Values.{and_then, position_of, is_true_value, value_in, value_at, based, fitted, word, limits_of, limits_or, limits_named}
 use Rattle.ada_value.specs.Evaluating.{literal_value, constant_value, fixed_value, bound_value, attribute_value, signed_value, unless_zero, combined, operated, evaluated, bounds_of, narrowed}
 use Rattle.common_lemmas.specs.division.Modulus.{modulus}
-use Rattle.legal_programs.specs.rewritten_types.Agreement.{Keeps}
-use Rattle.legal_programs.proofs.rewritten_types.Lookups.{find-all}
-use Rattle.legal_programs.specs.types.Typed.{HasPosition, IsSmallKind, IsSmall}
-use Rattle.legal_programs.proofs.types.TypedValues.{anybody, IsTyped}
+use Rattle.task_laws.specs.legal.rewritten_types.Agreement.{Keeps}
+use Rattle.task_laws.proofs.legal.rewritten_types.Lookups.{find-all}
+use Rattle.task_laws.specs.legal.types.Typed.{HasPosition, IsSmallKind, IsSmall}
+use Rattle.task_laws.proofs.legal.types.TypedValues.{anybody, IsTyped}
 
 -- its position is a number of INTEGER
 abbrev pub InInteger : Value → Type 0

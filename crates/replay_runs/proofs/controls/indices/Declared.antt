@@ -19,7 +19,7 @@ use Rattle.task_model.specs.Setting.{Setting}
 use Rattle.task_model.specs.Starting.{unit_among, unit_of_info, unit_of}
 use Rattle.task_laws.specs.statements.Each.{Loops, InBody}
 use Rattle.task_laws.specs.statements.variables.Held.{InAccept, InKind, InAlternatives, DeclaresInner}
-use Rattle.legal_programs.specs.asked.Asked.{AskedStmt, AskedAccept, AskedKind, AskedAlts}
+use Rattle.task_laws.specs.legal.asked.Asked.{AskedStmt, AskedAccept, AskedKind, AskedAlts}
 use Rattle.normal_laws.specs.runs.forms.Normalisable.{numbers_of, setting_for, made_for}
 use Rattle.normal_laws.specs.existence.Laws.{IsLegalOriginal}
 use Rattle.normal_laws.proofs.existence.statements.Asked.{body-each}
@@ -28,8 +28,8 @@ use Rattle.replay_model.specs.ReplayTree.{is_body, script_of}
 use Rattle.replay_structure.specs.scopes.Form.{BodyForms, IsForm, tasked, last}
 use Rattle.replay_structure.specs.scopes.Names.{old_name}
 use Rattle.replay_structure.specs.typed.ScopeOf.{form_asks}
-use Rattle.replay_is_legal.specs.names.form_units.Inner.{inner_name}
-use Rattle.replay_is_legal.proofs.names.Form.{legal_normal_is_form}
+use Rattle.replay_structure.specs.legal.names.form_units.Inner.{inner_name}
+use Rattle.replay_structure.proofs.legal.names.Form.{legal_normal_is_form}
 use Rattle.replay_runs.specs.starts.Laws.{form_in}
 
 module _ (old inner : ℕ → Bool) where

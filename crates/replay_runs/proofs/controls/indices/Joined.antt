@@ -19,8 +19,8 @@ use Rattle.task_model.specs.Starting.{unit_of}
 use Rattle.task_laws.specs.statements.variables.Held.{DeclaresInner, KeepsValue, IsKept, same_value, fitting_value, MeansKept, kept_variable}
 use Rattle.task_laws.proofs.statements.Carried.{starts-so}
 use Rattle.task_laws.proofs.statements.variables.Carried.{variables_start, variables_stay, inner_stays, names_mean_kept}
-use Rattle.legal_programs.proofs.rewritten_types.Lookups.{find-all}
-use Rattle.legal_programs.proofs.types.MainScopes.{StandsWhole, last-stands}
+use Rattle.task_laws.proofs.legal.rewritten_types.Lookups.{find-all}
+use Rattle.task_laws.proofs.legal.types.MainScopes.{StandsWhole, last-stands}
 use Rattle.normal_model.specs.Names.{variable_name}
 use Rattle.normal_laws.specs.runs.floors.Preludes.{cell}
 use Rattle.normal_laws.specs.runs.forms.Normalisable.{setting_for, made_for}
@@ -30,7 +30,7 @@ use Rattle.normal_laws.proofs.legality.Legal.{normal_meets_types}
 use Rattle.normal_laws.proofs.legality.checks.Facts as facts
 use Rattle.normal_laws.specs.legality.scopes.Plain.{plain_name}
 use Rattle.normal_laws.proofs.legality.scopes.Names.{variable-new}
-use Rattle.replay_is_legal.specs.names.form_units.Inner.{inner_name}
+use Rattle.replay_structure.specs.legal.names.form_units.Inner.{inner_name}
 use Rattle.replay_runs.specs.starts.Laws.{form_in, start_before}
 use Rattle.replay_runs.specs.starts.Formals.{form_setting}
 use Rattle.replay_runs.specs.controls.permits.Laws.{IndexIs, index_is}

@@ -19,9 +19,9 @@ use Rattle.ada_value.specs.Values.{position_of, lies_in, lower_bound, limits_of,
 use Rattle.ada_value.specs.Variables.{Object, Variables, value_there, form_of_mark}
 use Rattle.ada_value.specs.Evaluating.{evaluated, narrowed, range_of}
 use Rattle.task_model.specs.Starting.{known_range, marked_form, plain_form, array_form, form_of, value_or_lower, initial, value_count, initials, object_of, with_objects, is_in_types, declared_objects, after_declaration, objects_of}
-use Rattle.legal_programs.specs.rewritten_types.Agreement.{Keeps}
-use Rattle.legal_programs.specs.types.Typed.{IsSmall}
-use Rattle.legal_programs.proofs.types.TypedValues.{anybody, IsTyped}
+use Rattle.task_laws.specs.legal.rewritten_types.Agreement.{Keeps}
+use Rattle.task_laws.specs.legal.types.Typed.{IsSmall}
+use Rattle.task_laws.proofs.legal.types.TypedValues.{anybody, IsTyped}
 use Rattle.replay_runs.proofs.controls.indices.Bounded.{InInteger, AreInInteger, Gives, limits-in, worth-in, narrowed-in, lower-in}
 
 -- the bounds of its subtype and the position of its value are numbers of INTEGER

@@ -21,7 +21,7 @@ use Rattle.replay_structure.specs.spots.Places.{counts, text_spots}
 use Rattle.replay_structure.proofs.spots.Sorted.{spots_are_numbered}
 use Rattle.replay_structure.proofs.spots.Placed.{spots_have_owners}
 use Rattle.replay_structure.proofs.spots.Ordered.{normal_is_in_order}
-use Rattle.replay_is_legal.proofs.Examples as examples
+use Rattle.replay_structure.proofs.legal.Examples as examples
 use Rattle.replay_runs.specs.starts.Laws.{form_in}
 use Rattle.replay_runs.proofs.controls.Offers.{as-many-numbers}
 use Rattle.replay_runs.proofs.controls.meanings.Naming.{owner-below, aborted-below}

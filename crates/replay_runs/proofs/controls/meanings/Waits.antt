@@ -51,7 +51,7 @@ use Rattle.replay_model.specs.ReplayTree.{last_task}
 use Rattle.replay_model.specs.ReplayStmts.{replay_rewriter}
 use Rattle.replay_structure.proofs.asked.Kept.{still_alts, no-leads}
 use Rattle.replay_runs.proofs.found.Legal.{legal_more_are_found}
-use Rattle.replay_is_legal.proofs.names.form_names.Olds.{first-old}
+use Rattle.replay_structure.proofs.legal.names.form_names.Olds.{first-old}
 use Rattle.replay_structure.specs.spots.Places.{text_spots}
 use Rattle.replay_runs.specs.starts.Laws.{form_in, text_in}
 use Rattle.replay_runs.specs.starts.Formals.{text_setting}

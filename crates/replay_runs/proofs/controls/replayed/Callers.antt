@@ -12,7 +12,7 @@ use Rattle.syn_event.specs.Numbering.{Numbering}
 use Rattle.seq_file.specs.Known.{is_task, is_known_member, is_known}
 use Rattle.normal_laws.specs.runs.forms.Normalisable.{numbers_of}
 use Rattle.normal_laws.specs.existence.Laws.{IsLegalOriginal}
-use Rattle.replay_is_legal.specs.known.Laws.{AreKnown}
+use Rattle.replay_structure.specs.legal.known.Laws.{AreKnown}
 use Rattle.replay_model.specs.ReplayTree.{last_task}
 use Rattle.replay_runs.specs.starts.Laws.{form_in}
 use Rattle.replay_runs.proofs.controls.Offers.{as-many-numbers}

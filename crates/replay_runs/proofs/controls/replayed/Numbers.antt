@@ -12,8 +12,8 @@ use Rattle.normal_laws.specs.runs.runs.Laws.{opened}
 use Rattle.normal_laws.specs.runs.forms.Normalisable.{numbers_of}
 use Rattle.normal_laws.specs.existence.Laws.{IsLegalOriginal}
 use Rattle.replay_model.specs.ReplayNumbers.{numbers_replayed}
-use Rattle.replay_is_legal.specs.Laws.{text_for}
-use Rattle.replay_is_legal.proofs.Legal.{legal_replay_has_numbers}
+use Rattle.replay_structure.specs.legal.Laws.{text_for}
+use Rattle.replay_structure.proofs.legal.Legal.{legal_replay_has_numbers}
 use Rattle.replay_runs.specs.starts.Laws.{form_in}
 use Rattle.replay_runs.specs.controls.Laws.{control_number}
 use Rattle.replay_runs.specs.controls.meanings.Settings.{form_setup, form_program}

@@ -28,8 +28,8 @@ use Rattle.run_laws.specs.telling.ByEvents.{by_events}
 use Rattle.run_laws.proofs.replaying.Tracking.{replays}
 use Rattle.run_laws.proofs.replaying.Continuing.{goes_far}
 use Rattle.run_laws.proofs.replaying.Quiet.{ends_whole}
-use Rattle.replay_is_legal.specs.Laws.{text_for}
-use Rattle.replay_is_legal.specs.known.Laws.{AreKnown}
+use Rattle.replay_structure.specs.legal.Laws.{text_for}
+use Rattle.replay_structure.specs.legal.known.Laws.{AreKnown}
 use Rattle.replay_runs.specs.starts.Laws.{form_in}
 use Rattle.replay_runs.specs.starts.Formals.{form_setting, text_setting}
 use Rattle.table_law.specs.States.{LeadsTo}

@@ -25,8 +25,8 @@ use Rattle.task_model.specs.Setting.{Setting}
 use Rattle.common_lemmas.proofs.Lists.{all_back, all_joined, all_weaker, element_at, holds_at}
 use Rattle.common_lemmas.proofs.Numbers.{equal_is, equal_self, one_more, unequal}
 use Rattle.common_lemmas.proofs.Options.{some_same}
-use Rattle.legal_programs.specs.rewritten_values.Values.{old_names}
-use Rattle.legal_programs.proofs.rewritten_values.Saying.{place-within}
+use Rattle.task_laws.specs.legal.rewritten_values.Values.{old_names}
+use Rattle.task_laws.proofs.legal.rewritten_values.Saying.{place-within}
 use Rattle.normal_laws.specs.structure.types.Own.{own_name}
 use Rattle.normal_laws.specs.structure.types.Laws.{AreOwn}
 use Rattle.normal_laws.specs.structure.numbers.Laws.{NoneIsDed}

@@ -21,7 +21,7 @@ use Rattle.task_model.specs.Setting.{Setting}
 use Rattle.common_lemmas.proofs.Lists.{all_by_place, all_paired, all_weaker, element_at, holds_at}
 use Rattle.common_lemmas.proofs.Numbers.{lt_false, more_zero}
 use Rattle.common_lemmas.proofs.Truth.{false_behind, if_false, if_true}
-use Rattle.legal_programs.proofs.rewritten_types.Lookups.{place-more}
+use Rattle.task_laws.proofs.legal.rewritten_types.Lookups.{place-more}
 use Rattle.normal_laws.proofs.structure.numbers.Named.{reserved-added, text-there, added-longer, own-within, own-not-added}
 use Rattle.normal_laws.proofs.structure.numbers.Tasked.{under, normal-tasks-of}
 use Rattle.normal_laws.proofs.structure.numbers.TaskNames.{IsFine, IsNamed, normal-begins, all-fine, all-named}

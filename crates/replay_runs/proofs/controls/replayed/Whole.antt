@@ -13,9 +13,9 @@ use Rattle.normal_laws.specs.existence.Laws.{IsLegalOriginal}
 use Rattle.replay_model.specs.ReplayTree.{last_task}
 use Rattle.replay_structure.specs.checked.Example.{example_events}
 use Rattle.replay_structure.proofs.spots.Ordered.{normal_is_in_order}
-use Rattle.replay_is_legal.specs.Laws.{text_for}
-use Rattle.replay_is_legal.specs.known.Laws.{AreKnown}
-use Rattle.replay_is_legal.proofs.names.kept_names.Instance as example
+use Rattle.replay_structure.specs.legal.Laws.{text_for}
+use Rattle.replay_structure.specs.legal.known.Laws.{AreKnown}
+use Rattle.replay_structure.proofs.legal.names.kept_names.Instance as example
 use Rattle.replay_runs.specs.starts.Laws.{form_in}
 use Rattle.replay_runs.proofs.found.Legal as facts
 use Rattle.replay_runs.specs.controls.meanings.Settings.{FormLaws, form_program, form_replayed}

@@ -23,10 +23,10 @@ use Rattle.syn_event.specs.Numbering.{task_at}
 use Rattle.task_model.specs.Starting.{unit_among, unit_of_info, unit_of}
 use Rattle.task_laws.proofs.statements.Legal.{legal_exits_leave as exits-leave}
 use Rattle.task_laws.proofs.statements.Carried.{exits_start}
-use Rattle.legal_programs.specs.sites.Met.{IsMet}
-use Rattle.legal_programs.proofs.sites.Meeting.{all_met}
-use Rattle.legal_programs.proofs.types.MainScopes.{StandsWhole, bodies-stand}
-use Rattle.legal_programs.proofs.types.BodyScopes.{BodiesStand, bodies-all}
+use Rattle.task_laws.specs.legal.sites.Met.{IsMet}
+use Rattle.task_laws.proofs.legal.sites.Meeting.{all_met}
+use Rattle.task_laws.proofs.legal.types.MainScopes.{StandsWhole, bodies-stand}
+use Rattle.task_laws.proofs.legal.types.BodyScopes.{BodiesStand, bodies-all}
 use Rattle.task_laws.specs.translation.Translations.{Programs}
 use Rattle.task_laws.specs.translation.OldTexts.{Asked, only_names, OldBody, old_body, old_no_stmt, old_no_handler}
 use Rattle.normal_laws.specs.structure.checked.Around.{own_rules}
@@ -40,7 +40,7 @@ use Rattle.normal_laws.proofs.existence.statement_forms.Text.{IsLocal, IsKnownPl
 use Rattle.normal_laws.proofs.existence.body_forms.Typing.{locals-of, are-typed}
 use Rattle.normal_laws.proofs.legality.checks.Facts as facts
 use Rattle.normal_laws.proofs.existence.statements.Asked.{nothing-asked}
-use Rattle.replay_is_legal.proofs.names.form_names.Owned.{names-old}
+use Rattle.replay_structure.proofs.legal.names.form_names.Owned.{names-old}
 use Rattle.replay_runs.specs.starts.Laws.{form_in}
 use Rattle.replay_runs.specs.starts.Formals.{form_setting}
 use Rattle.replay_runs.specs.controls.translated.Laws.{form_and_text, LegalNamesAreOld, LegalExitsLeaveAtStart}

@@ -19,13 +19,13 @@ use Rattle.syn_event.proofs.Weaker.{less}
 use Rattle.ada_value.specs.declared.values.Value.TheVariants.{Number}
 use Rattle.ada_value.specs.Variables.{Object, Variables}
 use Rattle.task_model.specs.Starting.{objects_of, unit_of_info}
-use Rattle.legal_programs.proofs.types.MainScopes.{main-stands}
+use Rattle.task_laws.proofs.legal.types.MainScopes.{main-stands}
 use Rattle.task_laws.specs.translation.Translations.{Programs}
-use Rattle.legal_programs.specs.rewritten_types.Rewriting.{staying}
-use Rattle.legal_programs.proofs.rewritten_types.Refused.{declared_once}
-use Rattle.legal_programs.proofs.rewritten_types.Staying.{staying_is_front}
-use Rattle.legal_programs.specs.rewritten_values.Values.{AgreeOnValues, old_names}
-use Rattle.legal_programs.proofs.rewritten_values.Staying.{objects_stay}
+use Rattle.task_laws.specs.legal.rewritten_types.Rewriting.{staying}
+use Rattle.task_laws.proofs.legal.rewritten_types.Refused.{declared_once}
+use Rattle.task_laws.proofs.legal.rewritten_types.Staying.{staying_is_front}
+use Rattle.task_laws.specs.legal.rewritten_values.Values.{AgreeOnValues, old_names}
+use Rattle.task_laws.proofs.legal.rewritten_values.Staying.{objects_stay}
 use Rattle.normal_laws.specs.structure.checked.Around.{own_rules}
 use Rattle.normal_laws.specs.runs.forms.Normalisable.{made_for, IsPlain}
 use Rattle.normal_laws.proofs.legality.Legal.{normal_meets_types}
@@ -39,7 +39,7 @@ use Rattle.normal_laws.proofs.existence.units.TypedNames.{stand-still}
 use Rattle.normal_laws.proofs.legality.checks.Facts as facts
 use Rattle.replay_model.specs.Names.{kind_text, argument_text, index_text, added_id}
 use Rattle.replay_model.specs.ReplayTree.{last_task}
-use Rattle.replay_is_legal.proofs.names.form_names.Owned.{names-old}
+use Rattle.replay_structure.proofs.legal.names.form_names.Owned.{names-old}
 use Rattle.replay_structure.specs.scopes.Names.{old_name}
 use Rattle.replay_structure.proofs.scopes.Names.{permits-new}
 use Rattle.replay_runs.specs.starts.Laws.{permit_objects, FindsPermit, form_in, text_in, start_before, start_after}

@@ -29,8 +29,8 @@ use Rattle.normal_laws.specs.existence.Laws.{IsLegalOriginal}
 use Rattle.replay_model.specs.ReplayStmts.{replay_body}
 use Rattle.replay_model.specs.ReplayTree.{last_task, script_of}
 use Rattle.replay_model.specs.ReplayNumbers.{numbers_replayed}
-use Rattle.replay_is_legal.proofs.names.form_units.Entries.{tell, unit-numbered}
-use Rattle.replay_is_legal.proofs.names.form_units.OpForms.{at-place}
+use Rattle.replay_structure.proofs.legal.names.form_units.Entries.{tell, unit-numbered}
+use Rattle.replay_structure.proofs.legal.names.form_units.OpForms.{at-place}
 use Rattle.replay_runs.specs.starts.Laws.{form_in, text_in, start_before, start_after}
 use Rattle.replay_runs.specs.starts.Formals.{form_setting, text_setting}
 use Rattle.replay_runs.proofs.starts.Bodies.{legal_runs}

@@ -19,18 +19,18 @@ use Rattle.ada_static_rules.specs.Declaring.{first_scope, with_types, object_mea
 use Rattle.syn_event.specs.DeclaredTasks.{decl_list}
 use Rattle.syn_event.proofs.Weaker.{placed_tokens}
 use Rattle.task_model.specs.Setting.{Setting}
-use Rattle.legal_programs.specs.types.Typed.{IsSmall, IsSmallKind}
-use Rattle.legal_programs.proofs.types.FirmTables.{scalar-kind}
+use Rattle.task_laws.specs.legal.types.Typed.{IsSmall, IsSmallKind}
+use Rattle.task_laws.proofs.legal.types.FirmTables.{scalar-kind}
 use Rattle.normal_model.specs.NormalTree.{first_decls, main_unit, main_variables, tasks_beside, task_declared, bodies_of}
 use Rattle.replay_model.specs.ReplayTree.{permit_declared, replay_decl, script_of}
-use Rattle.legal_programs.specs.rewritten_types.Agreement.{scalar_only, Keeps, Agrees}
-use Rattle.legal_programs.specs.rewritten_types.Laws.{behind}
-use Rattle.legal_programs.proofs.rewritten_types.Keeping.{keeps-self, keeps-on}
-use Rattle.legal_programs.proofs.rewritten_types.Adding.{names-types, keeps-shape, keeps-objects}
-use Rattle.legal_programs.proofs.rewritten_types.Rooting.{rooted_agrees}
-use Rattle.legal_programs.specs.rewritten_values.Values.{AgreeOnValues}
-use Rattle.legal_programs.proofs.rewritten_values.Saying.{tables_agree_on_values}
-use Rattle.legal_programs.proofs.rewritten_values.Named.{literals_are_named}
+use Rattle.task_laws.specs.legal.rewritten_types.Agreement.{scalar_only, Keeps, Agrees}
+use Rattle.task_laws.specs.legal.rewritten_types.Laws.{behind}
+use Rattle.task_laws.proofs.legal.rewritten_types.Keeping.{keeps-self, keeps-on}
+use Rattle.task_laws.proofs.legal.rewritten_types.Adding.{names-types, keeps-shape, keeps-objects}
+use Rattle.task_laws.proofs.legal.rewritten_types.Rooting.{rooted_agrees}
+use Rattle.task_laws.specs.legal.rewritten_values.Values.{AgreeOnValues}
+use Rattle.task_laws.proofs.legal.rewritten_values.Saying.{tables_agree_on_values}
+use Rattle.task_laws.proofs.legal.rewritten_values.Named.{literals_are_named}
 use Rattle.normal_laws.proofs.structure.types.Normal.{front-after, normal_is_rooted}
 use Rattle.normal_laws.proofs.structure.types.Variables.{IsTaskOrBody, tasks-only, bodies-only, unit-all}
 use Rattle.normal_laws.proofs.structure.numbers.Listed.{vars, tasks, bodies}

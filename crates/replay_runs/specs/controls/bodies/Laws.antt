@@ -20,7 +20,7 @@ use Rattle.replay_model.specs.ReplayNumbers.{numbers_replayed}
 use Rattle.table_law.specs.runs.Permits.{AcceptsNoJoin}
 use Rattle.table_law.specs.runs.Bodies.{HasBody}
 use Rattle.replay_structure.specs.checked.Example.{example_events}
-use Rattle.replay_is_legal.specs.known.Laws.{AreKnown}
+use Rattle.replay_structure.specs.legal.known.Laws.{AreKnown}
 use Rattle.replay_runs.specs.starts.Laws.{form_in, text_in}
 use Rattle.replay_runs.specs.starts.Formals.{text_setting}
 use Rattle.replay_runs.specs.controls.Laws.{control_number, controller, control_entries}

@@ -6,7 +6,7 @@ use Rattle.ada_tree.specs.PlainProgram.{PProgram}
 use Rattle.syn_event.specs.DeclaredTasks.{decl_list}
 use Rattle.task_model.specs.Starting.{unit_of}
 use Rattle.task_laws.specs.statements.Each.{InBody}
-use Rattle.legal_programs.specs.literals.Colours.{coloured}
+use Rattle.task_laws.specs.legal.literals.Colours.{coloured}
 use Rattle.normal_laws.specs.runs.forms.Choosing.{choosing}
 use Rattle.normal_laws.specs.existence.Laws.{IsLegalOriginal}
 use Rattle.replay_runs.specs.starts.Laws.{form_in}

@@ -15,7 +15,7 @@ use Rattle.task_laws.specs.statements.variables.Held.{DeclaresInner, HoldsVariab
 use Rattle.normal_model.specs.Names.{variable_name}
 use Rattle.normal_laws.specs.runs.forms.Normalisable.{numbers_of, setting_for, variables_of}
 use Rattle.normal_laws.specs.existence.Laws.{IsLegalOriginal}
-use Rattle.replay_is_legal.specs.names.form_units.Inner.{inner_name}
+use Rattle.replay_structure.specs.legal.names.form_units.Inner.{inner_name}
 use Rattle.replay_runs.specs.starts.Laws.{start_before}
 use Rattle.replay_runs.specs.starts.Formals.{form_setting}
 use Rattle.replay_runs.specs.controls.permits.Laws.{IndexIs}

@@ -12,8 +12,8 @@ use Rattle.normal_laws.specs.runs.forms.Normalisable.{numbers_of, made_for}
 use Rattle.normal_laws.specs.structure.placed.Example.{passing}
 use Rattle.normal_laws.specs.existence.Laws.{IsLegalOriginal}
 use Rattle.replay_structure.specs.checked.Example.{example_events}
-use Rattle.replay_is_legal.specs.Laws.{text_for}
-use Rattle.replay_is_legal.specs.known.Laws.{AreKnown}
+use Rattle.replay_structure.specs.legal.Laws.{text_for}
+use Rattle.replay_structure.specs.legal.known.Laws.{AreKnown}
 use Rattle.replay_runs.specs.controls.replayed.Replaying.{Replays, starting, AgreeBelow, ReplaysProgram}
 
 -- What replays a sequence of a program replays it of each program of as many tasks that shows the same.

@@ -9,7 +9,7 @@ use Rattle.task_model.specs.Tasks.{Task, rest_of, place_of}
 use Rattle.task_model.specs.Starting.{unit_of, started}
 use Rattle.task_laws.specs.statements.Each.{HoldsOf}
 use Rattle.task_laws.specs.statements.Laws.{ExitLeaves}
-use Rattle.legal_programs.specs.rewritten_values.Values.{is_known}
+use Rattle.task_laws.specs.legal.rewritten_values.Values.{is_known}
 use Rattle.task_laws.specs.translation.Scopes.{AgreeOnTypes}
 use Rattle.task_laws.specs.translation.OldTexts.{only_names, OldBody}
 use Rattle.task_laws.specs.translation.Translations.{Programs, Translation}

@@ -1,6 +1,6 @@
 -- How deep what stands in a statement itself is nested (this project's rule).
 use Rattle.std.specs.Prelude.{ℕ, ◌≤◌}
-use Rattle.legal_programs.specs.asked.Asked.{Asks}
+use Rattle.task_laws.specs.legal.asked.Asked.{Asks}
 
 -- each part of a statement, and what stands in it without the statements in it, is at most so deep
 abbrev pub depth_asks : ℕ → Asks (Unit {0})

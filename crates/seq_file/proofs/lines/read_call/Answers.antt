@@ -4,9 +4,9 @@ use Rattle.std.specs.Int.{w32, w64}
 use Rattle.std.specs.Prelude.{bytes_eq, codes, FitsSigned}
 use Rattle.event_machine.specs.declared.Event.TheVariants.{R, C, T, F}
 use Rattle.seq_file.specs.Lines.{call_event, with_three}
-use Rattle.text_lines.specs.Numerals.{count, integer}
+use Rattle.seq_file.specs.text_lines.Numerals.{count, integer}
 use Rattle.seq_file.specs.inner.Verdicts.{verdict_of}
-use Rattle.text_lines.specs.Capped.{capped_integer}
+use Rattle.seq_file.specs.text_lines.Capped.{capped_integer}
 use Rattle.seq_file.specs.Known.{is_index}
 use Rattle.seq_file.proofs.Calling.{three-read, capped-fits}
 use Rattle.seq_file.proofs.lines.read_call.Goals as goal

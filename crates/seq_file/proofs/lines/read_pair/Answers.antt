@@ -3,7 +3,7 @@ use Rattle.std.specs.Prelude.{bytes_eq, codes}
 use Rattle.event_machine.specs.declared.Event.TheVariants.{D, B}
 use Rattle.seq_file.specs.Known.{is_task, is_task_beside_main, is_alternative}
 use Rattle.seq_file.specs.Lines.{pair_event, with_two}
-use Rattle.text_lines.specs.Numerals.{count}
+use Rattle.seq_file.specs.text_lines.Numerals.{count}
 use Rattle.seq_file.specs.inner.Verdicts.{verdict_of}
 use Rattle.seq_file.proofs.Knowing.{two-read, task-test, beside-test, alternative-test}
 use Rattle.seq_file.proofs.lines.read_pair.Goals as goal

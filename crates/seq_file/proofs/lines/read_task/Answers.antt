@@ -3,7 +3,7 @@ use Rattle.std.specs.Prelude.{bytes_eq, codes}
 use Rattle.event_machine.specs.declared.Event.TheVariants.{E, S, X}
 use Rattle.seq_file.specs.Known.{is_task_beside_main}
 use Rattle.seq_file.specs.Lines.{task_event}
-use Rattle.text_lines.specs.Numerals.{count}
+use Rattle.seq_file.specs.text_lines.Numerals.{count}
 use Rattle.seq_file.specs.inner.Verdicts.{verdict_of}
 use Rattle.seq_file.proofs.Knowing.{one-read, beside-test}
 use Rattle.seq_file.proofs.lines.read_task.Goals as goal

@@ -2,8 +2,8 @@ use Rattle.std.proofs.Common.{ℕ, List, Option, ap, ◌∙◌, sym}
 use Rattle.std.specs.Prelude.{codes, option_and_then}
 use Rattle.syn_event.specs.Numbering.{original_tasks, original_entries}
 use Rattle.syn_event.specs.DeclaredTasks.{text_of}
-use Rattle.text_lines.specs.Lines.{words_of}
-use Rattle.text_lines.proofs.Marking.{first-line_cut}
+use Rattle.seq_file.specs.text_lines.Lines.{words_of}
+use Rattle.seq_file.proofs.text_lines.Marking.{first-line_cut}
 use Rattle.seq_file.specs.Files.{fault_of_header}
 use Rattle.seq_file.specs.Lines.{Header, header_of_format}
 use Rattle.seq_file.proofs.list_reading.behind_list_header.Goals as goal

@@ -4,7 +4,7 @@ use Rattle.syn_event.specs.Numbering.{original_tasks, original_entries}
 use Rattle.syn_event.specs.DeclaredTasks.{text_of}
 use Rattle.seq_file.specs.Files.{fault_of_header}
 use Rattle.seq_file.specs.Lines.{header_of_line}
-use Rattle.text_lines.proofs.Marking.{first-line_cut}
+use Rattle.seq_file.proofs.text_lines.Marking.{first-line_cut}
 use Rattle.seq_file.proofs.reading.behind_header.Goals as goal
 
 pub returns-in-None-clause-read : goal.returns-in-None-clause-read

@@ -3,7 +3,7 @@ use Rattle.seq_file.specs.Files.{line_fault}
 use Rattle.seq_file.specs.inner.NextEvents.{IsNextEvent}
 use Rattle.seq_file.proofs.Filing.{IsReadTo, read-start, read-more, read-end, read-fault, reads-no_fault, reads-unique, fault-unique}
 use Rattle.common_lemmas.proofs.Lists.{empty_by}
-use Rattle.text_lines.proofs.Filing.{some-by}
+use Rattle.seq_file.proofs.text_lines.Filing.{some-by}
 use Rattle.seq_file.proofs.reading.read_seq.Goals as goal
 
 -- the header is bad

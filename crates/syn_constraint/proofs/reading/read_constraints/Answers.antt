@@ -1,8 +1,8 @@
 use Rattle.std.proofs.Common.{◌≡◌, ◌≢◌, sym, subst, ◌∙◌, [], length, inl, refl, rules, Some}
 use Rattle.std.specs.Prelude.{option_and_then}
-use Rattle.text_lines.specs.LineFiles.{HasFirstFault}
-use Rattle.text_lines.specs.Lines.{first_line}
-use Rattle.text_lines.proofs.Filing.{some-by}
+use Rattle.seq_file.specs.text_lines.LineFiles.{HasFirstFault}
+use Rattle.seq_file.specs.text_lines.Lines.{first_line}
+use Rattle.seq_file.proofs.text_lines.Filing.{some-by}
 use Rattle.common_lemmas.proofs.Lists.{empty_by}
 use Rattle.syn_constraint.specs.declared.errors.ConError.TheVariants.{BadLine}
 use Rattle.syn_constraint.specs.Lines.{line_of_text}

@@ -1,7 +1,7 @@
 use Rattle.std.proofs.Common.{ap, sym, ◌∙◌, option_map}
 use Rattle.std.specs.Result.{result_ok}
 use Rattle.ada_tree.specs.PlainExpr.{plain_expr}
-use Rattle.ada_static_values.specs.StaticAnswer.{static_answer}
+use Rattle.ada_scopes.specs.values.StaticAnswer.{static_answer}
 use Rattle.ada_check_places.specs.parts.inner.Claiming.{index_value}
 use Rattle.ada_check_places.proofs.parts.Claiming.{fixed_is}
 use Rattle.ada_check_places.proofs.parts.waits.index_value.Goals as goal

@@ -3,7 +3,7 @@ use Rattle.ada_tree.specs.PlainStmt.{plain_case_arm}
 use Rattle.collect_model.specs.Noting.{before_call, has_begun, at_finish}
 use Rattle.collect_xform.specs.recorder.Branches.{arm_at}
 use Rattle.collect_xform.proofs.recorder.Noted.{arm-put, arms-more}
-use Rattle.abort_model.specs.Recording.{on_before_call, on_begun, on_finish}
+use Rattle.collect_model.specs.aborts.Recording.{on_before_call, on_begun, on_finish}
 use Rattle.collect_abort.specs.Looked.{told_of}
 use Rattle.collect_abort.proofs.recorder.branches.put_first.Goals as goal
 

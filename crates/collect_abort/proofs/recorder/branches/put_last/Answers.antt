@@ -4,8 +4,8 @@ use Rattle.collect_model.specs.Noting.{at_end}
 use Rattle.collect_model.specs.Recording.{on_end}
 use Rattle.collect_xform.specs.recorder.Branches.{arm_at}
 use Rattle.collect_xform.proofs.recorder.Noted.{arm-put, arms-more}
-use Rattle.abort_model.specs.Noting.{at_abort}
-use Rattle.abort_model.specs.Recording.{on_abort}
+use Rattle.collect_model.specs.aborts.Noting.{at_abort}
+use Rattle.collect_model.specs.aborts.Recording.{on_abort}
 use Rattle.collect_abort.specs.Looked.{told_of}
 use Rattle.collect_abort.specs.Branches.{back_arm}
 use Rattle.collect_abort.proofs.recorder.branches.put_last.Goals as goal

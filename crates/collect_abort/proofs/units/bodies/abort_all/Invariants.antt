@@ -1,6 +1,6 @@
 use Rattle.std.proofs.Common.{◌≡◌, map, take}
 use Rattle.ada_tree.specs.PlainDecl.{plain_decl}
-use Rattle.abort_model.specs.AbortTree.{abort_decl}
+use Rattle.collect_model.specs.aborts.AbortTree.{abort_decl}
 use Rattle.normal_parts.proofs.Turning.{Left}
 use Rattle.collect_abort.specs.Looked.{told_of}
 use Rattle.collect_abort.proofs.units.bodies.abort_all.Given as goal

@@ -1,7 +1,7 @@
 use Rattle.std.proofs.Common.{◌++◌, map}
 use Rattle.ada_tree.specs.PlainDecl.{plain_decl}
 use Rattle.collect_model.specs.CollectTree.{unit_declared}
-use Rattle.abort_model.specs.AbortTree.{places_declared}
+use Rattle.collect_model.specs.aborts.AbortTree.{places_declared}
 use Rattle.collect_xform.proofs.units.Put.{objects-put, listed-put}
 use Rattle.collect_abort.specs.Looked.{told_of}
 use Rattle.collect_abort.proofs.units.bodies.put_objects.Goals as goal

@@ -1,6 +1,6 @@
 use Rattle.std.proofs.Common.{ap, ◌∙◌}
 use Rattle.ada_tree.specs.PlainStmt.{plain_body}
-use Rattle.abort_model.specs.AbortTeller.{told_at}
+use Rattle.collect_model.specs.aborts.AbortTeller.{told_at}
 use Rattle.collect_abort.specs.Looked.{told_of}
 use Rattle.collect_abort.proofs.units.Steps.{told-body}
 use Rattle.collect_abort.proofs.units.bodies.tell_body.Goals as goal

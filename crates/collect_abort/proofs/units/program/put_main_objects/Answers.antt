@@ -5,8 +5,8 @@ use Rattle.ada_tree.specs.PlainProgram.{PProgram, plain_program}
 use Rattle.replay_model.specs.ReplayTree.{last_task}
 use Rattle.collect_model.specs.CollectTree.{is_int_io, main_declared}
 use Rattle.collect_xform.proofs.units.Put.{any-seen, objects-put}
-use Rattle.abort_model.specs.Places.{places_in}
-use Rattle.abort_model.specs.AbortTree.{places_declared}
+use Rattle.collect_model.specs.aborts.Places.{places_in}
+use Rattle.collect_model.specs.aborts.AbortTree.{places_declared}
 use Rattle.collect_abort.specs.Looked.{told_of}
 use Rattle.collect_abort.proofs.units.program.put_main_objects.Goals as goal
 

@@ -3,8 +3,8 @@ use Rattle.ada_tree.specs.PlainProgram.{plain_program}
 use Rattle.collect_model.specs.Lines.{header_text}
 use Rattle.normal_parts.proofs.Putting.{decl-put}
 use Rattle.collect_xform.proofs.units.Put.{made-as}
-use Rattle.abort_model.specs.Recording.{recorder_body}
-use Rattle.abort_model.specs.AbortTree.{recorder_body_told}
+use Rattle.collect_model.specs.aborts.Recording.{recorder_body}
+use Rattle.collect_model.specs.aborts.AbortTree.{recorder_body_told}
 use Rattle.collect_abort.specs.Looked.{told_of}
 use Rattle.collect_abort.proofs.units.program.put_recorder_body.Goals as goal
 

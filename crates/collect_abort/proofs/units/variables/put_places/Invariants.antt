@@ -1,6 +1,6 @@
 use Rattle.std.proofs.Common.{◌≡◌, ◌++◌, map}
 use Rattle.ada_tree.specs.PlainDecl.{plain_decl}
-use Rattle.abort_model.specs.AbortTree.{places_declared}
+use Rattle.collect_model.specs.aborts.AbortTree.{places_declared}
 use Rattle.collect_abort.specs.Looked.{told_of}
 use Rattle.collect_abort.proofs.units.variables.put_places.Given as goal
 

@@ -1,5 +1,0 @@
-use Rattle.abort_runs.proofs.forms.Collecting.{legal_texts_tell, legal_texts_collect}
-use Rattle.abort_runs.proofs.forms.laws.Goals as goal
-
-pub returns : goal.returns
-returns c = record { tell = legal_texts_tell; collect = legal_texts_collect }

@@ -1,7 +1,0 @@
-use Rattle.abort_structure.proofs.declares_once.Whole.{abort_declares_once}
-use Rattle.abort_structure.proofs.declares_once.Legal.{legal_leaves_names, legal_abort_declares_once}
-use Rattle.abort_structure.proofs.declares_once.Examples.{is_met}
-use Rattle.abort_structure.proofs.declares_once.laws.Goals as goal
-
-pub returns : goal.returns
-returns c = record { once = abort_declares_once; leaves = legal_leaves_names; legal = legal_abort_declares_once; met = is_met }

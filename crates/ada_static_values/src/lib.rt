@@ -1,6 +1,0 @@
-//! Static expressions of Ada, and their values.
-#![tactic(auto)]
-
-pub mod named_values;
-pub mod operations;
-pub mod static_values;

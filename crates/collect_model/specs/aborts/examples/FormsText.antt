@@ -1,0 +1,483 @@
+-- The collecting text of `forms`, as it was written from the rules.
+use Rattle.std.specs.Prelude.{[], ◌∷◌, ◌++◌, codes, true, false, Some, None}
+use Rattle.ada_tree.specs.NameList.{predefined}
+use Rattle.ada_tree.specs.declared.expressions.BinaryOp.TheVariants as binary
+use Rattle.ada_tree.specs.declared.expressions.UnaryOp.TheVariants as unary
+use Rattle.ada_tree.specs.declared.statements.ParMode.TheVariants as mode
+use Rattle.ada_tree.specs.PlainExpr.{EInteger, EIndex, EUnary, EBinary, RGiven}
+use Rattle.ada_tree.specs.PlainStmt.{LFor, PWords, PValue, SNull, SAssign, SExit, SRaise, SAbort, SCall, SAccept, SWait, SConditional, STimed, SPut, SPutLine, SNewLine, SIf, SCase, SBlock, SLoop, no_stmt, stmt_then, absent, present, accepting, alternative, AAccept, ADelay, ATerminate, no_alt, alt_then, arm, no_arm, arm_then, case_arm, no_case_arm, case_arm_then, body, handler, no_handler, handler_then}
+use Rattle.ada_tree.specs.PlainDecl.{OPlain, OArray, IOne, IOthers, DObject, DArray, DIntIo, DTask, DTaskBody, no_decl, decl_then}
+use Rattle.ada_tree.specs.PlainProgram.{PProgram}
+use Rattle.collect_model.specs.aborts.examples.Trees.{o, w, n}
+
+-- The text:
+--
+-- with TEXT_IO;
+-- use TEXT_IO;
+-- procedure FORMS is
+--    package DED_INT_IO is new INTEGER_IO(INTEGER);
+--    use DED_INT_IO;
+--    type DED_FLAGS is array (0 .. 3) of BOOLEAN;
+--    DED_G : BOOLEAN := FALSE;
+--    DED_W : INTEGER := 0;
+--    task A_DED_1 is
+--       entry E(1 .. 3)(DED_C : in INTEGER; X : in out INTEGER);
+--       entry G(DED_C : in INTEGER);
+--    end A_DED_1;
+--    task A_DED_2 is
+--       entry E(1 .. 3)(DED_C : in INTEGER; X : in out INTEGER);
+--       entry G(DED_C : in INTEGER);
+--    end A_DED_2;
+--    task K;
+--    task DED_RECORD is
+--       entry NOTE(DED_NK, DED_NS, DED_NA, DED_NI, DED_NO : in INTEGER; DED_NG : out BOOLEAN);
+--    end DED_RECORD;
+--    task body A_DED_1 is
+--       I : INTEGER := 2;
+--       DED_G : BOOLEAN := FALSE;
+--       DED_W : INTEGER := 0;
+--       DED_Q1 : INTEGER := 0;
+--       DED_R1 : BOOLEAN := FALSE;
+--       DED_Q2 : INTEGER := 0;
+--       DED_R2 : BOOLEAN := FALSE;
+--       DED_Q3 : INTEGER := 0;
+--       DED_R3 : BOOLEAN := FALSE;
+--       DED_Q4 : INTEGER := 0;
+--       DED_R4 : BOOLEAN := FALSE;
+--       DED_Q5 : INTEGER := 0;
+--       DED_R5 : BOOLEAN := FALSE;
+--       DED_V1 : BOOLEAN;
+--       DED_V2 : INTEGER range 1 .. 3;
+--    begin
+--       begin
+--          begin
+--             DED_V1 := I = 2;
+--             if DED_V1 then
+--                DED_V2 := I;
+--             end if;
+--             loop
+--                begin
+--                   select
+--                      when DED_V1 =>
+--                         accept E(DED_V2)(DED_C : in INTEGER; X : in out INTEGER) do
+--                            DED_Q1 := DED_C;
+--                            DED_RECORD.NOTE(1, DED_C, 1, DED_V2, 1, DED_G);
+--                            DED_R1 := DED_G;
+--                            if not DED_R1 then
+--                               X := X + 1;
+--                               loop
+--                                  begin
+--                                     accept G(DED_C : in INTEGER) do
+--                                        DED_Q2 := DED_C;
+--                                        DED_RECORD.NOTE(1, DED_C, 2, 0, 1, DED_G);
+--                                        DED_R2 := DED_G;
+--                                     end G;
+--                                  exception
+--                                     when others =>
+--                                        DED_RECORD.NOTE(2, 1, DED_Q2, 0, 0, DED_G);
+--                                        raise;
+--                                  end;
+--                                  exit when not DED_R2;
+--                               end loop;
+--                               DED_RECORD.NOTE(2, 1, DED_Q2, 0, 0, DED_G);
+--                            end if;
+--                         end E;
+--                         if DED_R1 then
+--                            DED_W := 0;
+--                         else
+--                            DED_W := 1;
+--                         end if;
+--                   or
+--                      accept G(DED_C : in INTEGER) do
+--                         DED_Q1 := DED_C;
+--                         DED_RECORD.NOTE(1, DED_C, 2, 0, 1, DED_G);
+--                         DED_R1 := DED_G;
+--                      end G;
+--                      if DED_R1 then
+--                         DED_W := 0;
+--                      else
+--                         DED_W := 2;
+--                      end if;
+--                   or
+--                      delay 1.0;
+--                      DED_RECORD.NOTE(4, 1, 1, 0, 0, DED_G);
+--                      DED_W := 3;
+--                   or
+--                      delay 2.0;
+--                      DED_RECORD.NOTE(4, 1, 2, 0, 0, DED_G);
+--                      DED_W := 4;
+--                   end select;
+--                exception
+--                   when others =>
+--                      DED_RECORD.NOTE(2, 1, DED_Q1, 0, 0, DED_G);
+--                      raise;
+--                end;
+--                exit when DED_W /= 0;
+--             end loop;
+--             if DED_W = 1 then
+--                DED_RECORD.NOTE(2, 1, DED_Q1, 0, 0, DED_G);
+--             elsif DED_W = 2 then
+--                DED_RECORD.NOTE(2, 1, DED_Q1, 0, 0, DED_G);
+--                PUT("G");
+--             elsif DED_W = 3 then
+--                null;
+--             elsif DED_W = 4 then
+--                PUT("D");
+--             end if;
+--             loop
+--                loop
+--                   begin
+--                      select
+--                         accept E(3)(DED_C : in INTEGER; X : in out INTEGER) do
+--                            DED_Q3 := DED_C;
+--                            DED_RECORD.NOTE(1, DED_C, 1, 3, 1, DED_G);
+--                            DED_R3 := DED_G;
+--                         end E;
+--                         if DED_R3 then
+--                            DED_W := 0;
+--                         else
+--                            DED_W := 1;
+--                         end if;
+--                      or
+--                         accept G(DED_C : in INTEGER) do
+--                            DED_Q3 := DED_C;
+--                            DED_RECORD.NOTE(1, DED_C, 2, 0, 1, DED_G);
+--                            DED_R3 := DED_G;
+--                            if not DED_R3 then
+--                               PUT("G");
+--                            end if;
+--                         end G;
+--                         if DED_R3 then
+--                            DED_W := 0;
+--                         else
+--                            DED_W := 2;
+--                         end if;
+--                      else
+--                         DED_RECORD.NOTE(3, 1, 0, 0, 0, DED_G);
+--                         DED_W := 3;
+--                      end select;
+--                   exception
+--                      when others =>
+--                         DED_RECORD.NOTE(2, 1, DED_Q3, 0, 0, DED_G);
+--                         raise;
+--                   end;
+--                   exit when DED_W /= 0;
+--                end loop;
+--                if DED_W = 1 then
+--                   DED_RECORD.NOTE(2, 1, DED_Q3, 0, 0, DED_G);
+--                   exit;
+--                elsif DED_W = 2 then
+--                   DED_RECORD.NOTE(2, 1, DED_Q3, 0, 0, DED_G);
+--                elsif DED_W = 3 then
+--                   PUT("E");
+--                end if;
+--                loop
+--                   begin
+--                      select
+--                         accept G(DED_C : in INTEGER) do
+--                            DED_Q4 := DED_C;
+--                            DED_RECORD.NOTE(1, DED_C, 2, 0, 1, DED_G);
+--                            DED_R4 := DED_G;
+--                         end G;
+--                         if DED_R4 then
+--                            DED_W := 0;
+--                         else
+--                            DED_W := 1;
+--                         end if;
+--                      or
+--                         terminate;
+--                      end select;
+--                   exception
+--                      when others =>
+--                         DED_RECORD.NOTE(2, 1, DED_Q4, 0, 0, DED_G);
+--                         raise;
+--                   end;
+--                   exit when DED_W /= 0;
+--                end loop;
+--                if DED_W = 1 then
+--                   DED_RECORD.NOTE(2, 1, DED_Q4, 0, 0, DED_G);
+--                end if;
+--             end loop;
+--          exception
+--             when TASKING_ERROR =>
+--                loop
+--                   begin
+--                      accept G(DED_C : in INTEGER) do
+--                         DED_Q5 := DED_C;
+--                         DED_RECORD.NOTE(1, DED_C, 2, 0, 1, DED_G);
+--                         DED_R5 := DED_G;
+--                         if not DED_R5 then
+--                            null;
+--                         end if;
+--                      end G;
+--                   exception
+--                      when others =>
+--                         DED_RECORD.NOTE(2, 1, DED_Q5, 0, 0, DED_G);
+--                         raise;
+--                   end;
+--                   exit when not DED_R5;
+--                end loop;
+--                DED_RECORD.NOTE(2, 1, DED_Q5, 0, 0, DED_G);
+--          end;
+--       exception
+--          when others =>
+--             null;
+--       end;
+--       DED_RECORD.NOTE(8, 1, 0, 0, 0, DED_G);
+--    end A_DED_1;
+-- .. (the body of A_DED_2, 193 lines: as that of A_DED_1, with 2 for the number of the task, and 3 and 4 for those of its entries)
+--    task body K is
+--       J : INTEGER := 1;
+--       DED_G : BOOLEAN := FALSE;
+--       DED_W : INTEGER := 0;
+--       DED_V1 : INTEGER range 1 .. 2;
+--       DED_V2 : INTEGER range 1 .. 3;
+--       DED_V3 : INTEGER;
+--       DED_V4 : INTEGER range 1 .. 2;
+--       DED_V5 : INTEGER;
+--       DED_V6 : INTEGER range 1 .. 2;
+--    begin
+--       begin
+--          DED_V1 := J;
+--          case DED_V1 is
+--             when 1 =>
+--                DED_RECORD.NOTE(0, 3, 0, 0, 0, DED_G);
+--                begin
+--                   A_DED_1.G(3);
+--                exception
+--                   when others =>
+--                      DED_RECORD.NOTE(7, 3, 2, 0, 1, DED_G);
+--                      if DED_G then
+--                         raise TASKING_ERROR;
+--                      end if;
+--                      raise;
+--                end;
+--                DED_RECORD.NOTE(10, 3, 0, 0, 0, DED_G);
+--                if DED_G then
+--                   raise TASKING_ERROR;
+--                end if;
+--             when 2 =>
+--                DED_RECORD.NOTE(0, 3, 0, 0, 0, DED_G);
+--                begin
+--                   A_DED_2.G(3);
+--                exception
+--                   when others =>
+--                      DED_RECORD.NOTE(7, 3, 4, 0, 2, DED_G);
+--                      if DED_G then
+--                         raise TASKING_ERROR;
+--                      end if;
+--                      raise;
+--                end;
+--                DED_RECORD.NOTE(10, 3, 0, 0, 0, DED_G);
+--                if DED_G then
+--                   raise TASKING_ERROR;
+--                end if;
+--             when others =>
+--                null;
+--          end case;
+--          DED_V2 := J;
+--          DED_V3 := J;
+--          DED_RECORD.NOTE(0, 3, 0, 0, 0, DED_G);
+--          begin
+--             select
+--                A_DED_1.E(DED_V2)(3, DED_V3);
+--                DED_W := 1;
+--             else
+--                DED_W := 2;
+--             end select;
+--          exception
+--             when others =>
+--                DED_RECORD.NOTE(7, 3, 1, DED_V2, 1, DED_G);
+--                if DED_G then
+--                   raise TASKING_ERROR;
+--                end if;
+--                raise;
+--          end;
+--          if DED_W = 1 then
+--             DED_RECORD.NOTE(10, 3, 0, 0, 0, DED_G);
+--             if DED_G then
+--                raise TASKING_ERROR;
+--             end if;
+--             J := DED_V3;
+--             PUT("M");
+--          else
+--             DED_RECORD.NOTE(5, 3, 1, DED_V2, 1, DED_G);
+--             if DED_G then
+--                raise TASKING_ERROR;
+--             end if;
+--             PUT("C");
+--          end if;
+--          DED_RECORD.NOTE(0, 3, 0, 0, 0, DED_G);
+--          begin
+--             select
+--                A_DED_2.G(3);
+--                DED_W := 1;
+--             or
+--                delay 0.5;
+--                DED_W := 2;
+--             end select;
+--          exception
+--             when others =>
+--                DED_RECORD.NOTE(7, 3, 4, 0, 2, DED_G);
+--                if DED_G then
+--                   raise TASKING_ERROR;
+--                end if;
+--                raise;
+--          end;
+--          if DED_W = 1 then
+--             DED_RECORD.NOTE(10, 3, 0, 0, 0, DED_G);
+--             if DED_G then
+--                raise TASKING_ERROR;
+--             end if;
+--          else
+--             DED_RECORD.NOTE(6, 3, 4, 0, 2, DED_G);
+--             if DED_G then
+--                raise TASKING_ERROR;
+--             end if;
+--          end if;
+--          DED_V4 := J;
+--          case DED_V4 is
+--             when 1 =>
+--                DED_RECORD.NOTE(0, 3, 0, 0, 0, DED_G);
+--                begin
+--                   select
+--                      A_DED_1.G(3);
+--                      DED_W := 1;
+--                   else
+--                      DED_W := 2;
+--                   end select;
+--                exception
+--                   when others =>
+--                      DED_RECORD.NOTE(7, 3, 2, 0, 1, DED_G);
+--                      if DED_G then
+--                         raise TASKING_ERROR;
+--                      end if;
+--                      raise;
+--                end;
+--                if DED_W = 1 then
+--                   DED_RECORD.NOTE(10, 3, 0, 0, 0, DED_G);
+--                   if DED_G then
+--                      raise TASKING_ERROR;
+--                   end if;
+--                   DED_V5 := 1;
+--                else
+--                   DED_RECORD.NOTE(5, 3, 2, 0, 1, DED_G);
+--                   if DED_G then
+--                      raise TASKING_ERROR;
+--                   end if;
+--                   DED_V5 := 2;
+--                end if;
+--             when 2 =>
+--                DED_RECORD.NOTE(0, 3, 0, 0, 0, DED_G);
+--                begin
+--                   select
+--                      A_DED_2.G(3);
+--                      DED_W := 1;
+--                   else
+--                      DED_W := 2;
+--                   end select;
+--                exception
+--                   when others =>
+--                      DED_RECORD.NOTE(7, 3, 4, 0, 2, DED_G);
+--                      if DED_G then
+--                         raise TASKING_ERROR;
+--                      end if;
+--                      raise;
+--                end;
+--                if DED_W = 1 then
+--                   DED_RECORD.NOTE(10, 3, 0, 0, 0, DED_G);
+--                   if DED_G then
+--                      raise TASKING_ERROR;
+--                   end if;
+--                   DED_V5 := 1;
+--                else
+--                   DED_RECORD.NOTE(5, 3, 4, 0, 2, DED_G);
+--                   if DED_G then
+--                      raise TASKING_ERROR;
+--                   end if;
+--                   DED_V5 := 2;
+--                end if;
+--             when others =>
+--                null;
+--          end case;
+--          if DED_V5 = 1 then
+--             PUT("Y");
+--          else
+--             PUT("N");
+--          end if;
+--          DED_V6 := J;
+--          case DED_V6 is
+--             when 1 =>
+--                DED_RECORD.NOTE(9, 3, 1, 0, 0, DED_G);
+--             when 2 =>
+--                DED_RECORD.NOTE(9, 3, 2, 0, 0, DED_G);
+--             when others =>
+--                null;
+--          end case;
+--          DED_RECORD.NOTE(9, 3, 2, 0, 0, DED_G);
+--          DED_RECORD.NOTE(9, 3, 3, 0, 0, DED_G);
+--       exception
+--          when others =>
+--             null;
+--       end;
+--       DED_RECORD.NOTE(8, 3, 0, 0, 0, DED_G);
+--    end K;
+--    task body DED_RECORD is
+--       DED_GONE : DED_FLAGS := (others => FALSE);
+--       DED_MET, DED_ACC : array (0 .. 3) of INTEGER := (others => 0);
+--    begin
+--       PUT_LINE("ded-seq 1 FORMS 3 4");
+--       loop
+--          select
+--             accept NOTE(DED_NK, DED_NS, DED_NA, DED_NI, DED_NO : in INTEGER; DED_NG : out BOOLEAN) do
+-- .. (as in the text of `itself`, 108 lines: from "DED_NG := FALSE;" to "when 9 =>")
+--                      PUT("B");
+--                      PUT(" ");
+--                      PUT(DED_NS);
+--                      PUT(" ");
+--                      PUT(DED_NA);
+--                      NEW_LINE;
+--                      DED_GONE(DED_NA) := TRUE;
+--                      for DED_U in 0 .. 3 loop
+--                         if DED_MET(DED_U) = 1 and DED_ACC(DED_U) = DED_NA then
+--                            DED_MET(DED_U) := 3;
+--                         end if;
+--                      end loop;
+--                      case DED_NA is
+--                         when 1 =>
+--                            abort A_DED_1;
+--                         when 2 =>
+--                            abort A_DED_2;
+--                         when 3 =>
+--                            abort K;
+--                         when others =>
+--                            null;
+--                      end case;
+--                   when others =>
+--                      null;
+--                end case;
+--             end NOTE;
+--          or
+--             terminate;
+--          end select;
+--       end loop;
+--    end DED_RECORD;
+-- begin
+--    DED_RECORD.NOTE(0, 0, 0, 0, 0, DED_G);
+--    begin
+--       A_DED_2.G(0);
+--    exception
+--       when others =>
+--          DED_RECORD.NOTE(7, 0, 4, 0, 2, DED_G);
+--          if DED_G then
+--             raise TASKING_ERROR;
+--          end if;
+--          raise;
+--    end;
+--    DED_RECORD.NOTE(10, 0, 0, 0, 0, DED_G);
+--    if DED_G then
+--       raise TASKING_ERROR;
+--    end if;
+-- end FORMS;
+abbrev pub forms_text : PProgram
+forms_text = record { names = (predefined ++ (codes "FORMS" ∷ codes "W" ∷ codes "E" ∷ codes "X" ∷ codes "G" ∷ codes "A" ∷ codes "K" ∷ codes "I" ∷ codes "J" ∷ codes "A_DED_1" ∷ codes "A_DED_2" ∷ codes "DED_V1" ∷ codes "DED_V2" ∷ codes "DED_V3" ∷ codes "DED_V4" ∷ codes "DED_V5" ∷ codes "DED_V6" ∷ codes "DED_INT_IO" ∷ codes "DED_FLAGS" ∷ codes "DED_C" ∷ codes "DED_G" ∷ codes "DED_W" ∷ codes "DED_RECORD" ∷ codes "NOTE" ∷ codes "DED_NK" ∷ codes "DED_NS" ∷ codes "DED_NA" ∷ codes "DED_NI" ∷ codes "DED_NO" ∷ codes "DED_NG" ∷ codes "DED_GONE" ∷ codes "DED_MET" ∷ codes "DED_ACC" ∷ codes "DED_U" ∷ codes "DED_Q1" ∷ codes "DED_R1" ∷ codes "DED_Q2" ∷ codes "DED_R2" ∷ codes "DED_Q3" ∷ codes "DED_R3" ∷ codes "DED_Q4" ∷ codes "DED_R4" ∷ codes "DED_Q5" ∷ codes "DED_R5" ∷ [])); text_io = true; name = (w 25); decls = (decl_then (DIntIo (w 42) o) (decl_then (DArray (w 43) (RGiven (record { first = (EInteger 0 o); last = (EInteger 3 o) })) (record { mark = (w 3); bounds = None }) o) (decl_then (DObject ((w 45) ∷ []) false (OPlain (record { mark = (w 3); bounds = None })) (Some (IOne (n 4))) o) (decl_then (DObject ((w 46) ∷ []) false (OPlain (record { mark = (w 0); bounds = None })) (Some (IOne (EInteger 0 o))) o) (decl_then (DTask (record { name = (w 34); of_kind = false; entries = ((record { name = (w 27); family = (Some (RGiven (record { first = (EInteger 1 o); last = (EInteger 3 o) }))); formals = ((record { names = ((w 44) ∷ []); mode = mode.Take; mark = (w 0) }) ∷ (record { names = ((w 28) ∷ []); mode = mode.Both; mark = (w 0) }) ∷ []); span = o }) ∷ (record { name = (w 29); family = None; formals = ((record { names = ((w 44) ∷ []); mode = mode.Take; mark = (w 0) }) ∷ []); span = o }) ∷ []); priorities = [] }) o) (decl_then (DTask (record { name = (w 35); of_kind = false; entries = ((record { name = (w 27); family = (Some (RGiven (record { first = (EInteger 1 o); last = (EInteger 3 o) }))); formals = ((record { names = ((w 44) ∷ []); mode = mode.Take; mark = (w 0) }) ∷ (record { names = ((w 28) ∷ []); mode = mode.Both; mark = (w 0) }) ∷ []); span = o }) ∷ (record { name = (w 29); family = None; formals = ((record { names = ((w 44) ∷ []); mode = mode.Take; mark = (w 0) }) ∷ []); span = o }) ∷ []); priorities = [] }) o) (decl_then (DTask (record { name = (w 31); of_kind = false; entries = []; priorities = [] }) o) (decl_then (DTask (record { name = (w 47); of_kind = false; entries = ((record { name = (w 48); family = None; formals = ((record { names = ((w 49) ∷ (w 50) ∷ (w 51) ∷ (w 52) ∷ (w 53) ∷ []); mode = mode.Take; mark = (w 0) }) ∷ (record { names = ((w 54) ∷ []); mode = mode.Give; mark = (w 3) }) ∷ []); span = o }) ∷ []); priorities = [] }) o) (decl_then (DTaskBody (w 34) (decl_then (DObject ((w 32) ∷ []) false (OPlain (record { mark = (w 0); bounds = None })) (Some (IOne (EInteger 2 o))) o) (decl_then (DObject ((w 45) ∷ []) false (OPlain (record { mark = (w 3); bounds = None })) (Some (IOne (n 4))) o) (decl_then (DObject ((w 46) ∷ []) false (OPlain (record { mark = (w 0); bounds = None })) (Some (IOne (EInteger 0 o))) o) (decl_then (DObject ((w 59) ∷ []) false (OPlain (record { mark = (w 0); bounds = None })) (Some (IOne (EInteger 0 o))) o) (decl_then (DObject ((w 60) ∷ []) false (OPlain (record { mark = (w 3); bounds = None })) (Some (IOne (n 4))) o) (decl_then (DObject ((w 61) ∷ []) false (OPlain (record { mark = (w 0); bounds = None })) (Some (IOne (EInteger 0 o))) o) (decl_then (DObject ((w 62) ∷ []) false (OPlain (record { mark = (w 3); bounds = None })) (Some (IOne (n 4))) o) (decl_then (DObject ((w 63) ∷ []) false (OPlain (record { mark = (w 0); bounds = None })) (Some (IOne (EInteger 0 o))) o) (decl_then (DObject ((w 64) ∷ []) false (OPlain (record { mark = (w 3); bounds = None })) (Some (IOne (n 4))) o) (decl_then (DObject ((w 65) ∷ []) false (OPlain (record { mark = (w 0); bounds = None })) (Some (IOne (EInteger 0 o))) o) (decl_then (DObject ((w 66) ∷ []) false (OPlain (record { mark = (w 3); bounds = None })) (Some (IOne (n 4))) o) (decl_then (DObject ((w 67) ∷ []) false (OPlain (record { mark = (w 0); bounds = None })) (Some (IOne (EInteger 0 o))) o) (decl_then (DObject ((w 68) ∷ []) false (OPlain (record { mark = (w 3); bounds = None })) (Some (IOne (n 4))) o) (decl_then (DObject ((w 36) ∷ []) false (OPlain (record { mark = (w 3); bounds = None })) None o) (decl_then (DObject ((w 37) ∷ []) false (OPlain (record { mark = (w 0); bounds = (Some (record { first = (EInteger 1 o); last = (EInteger 3 o) })) })) None o) no_decl))))))))))))))) (body (stmt_then (SBlock (body (stmt_then (SBlock (body (stmt_then (SAssign (record { name = (w 36); index = None }) (EBinary binary.Equal (n 32) (EInteger 2 o) o) o) (stmt_then (SIf (arm_then (arm (n 36) (stmt_then (SAssign (record { name = (w 37); index = None }) (n 32) o) no_stmt)) no_arm) absent o) (stmt_then (SLoop None None (stmt_then (SBlock (body (stmt_then (SWait (alt_then (alternative (Some (n 36)) (AAccept (accepting (record { entry = (w 27); index = (Some (n 37)); formals = ((record { names = ((w 44) ∷ []); mode = mode.Take; mark = (w 0) }) ∷ (record { names = ((w 28) ∷ []); mode = mode.Both; mark = (w 0) }) ∷ []); span = o }) (present (stmt_then (SAssign (record { name = (w 59); index = None }) (n 44) o) (stmt_then (SCall (record { task = (record { name = (w 47); index = None }); entry = (w 48); args = (Some (record { first = ((EInteger 1 o) ∷ (n 44) ∷ (EInteger 1 o) ∷ (n 37) ∷ (EInteger 1 o) ∷ (n 45) ∷ []); second = None })) }) o) (stmt_then (SAssign (record { name = (w 60); index = None }) (n 45) o) (stmt_then (SIf (arm_then (arm (EUnary unary.Not (n 60) o) (stmt_then (SAssign (record { name = (w 28); index = None }) (EBinary binary.Plus (n 28) (EInteger 1 o) o) o) (stmt_then (SLoop None None (stmt_then (SBlock (body (stmt_then (SAccept (accepting (record { entry = (w 29); index = None; formals = ((record { names = ((w 44) ∷ []); mode = mode.Take; mark = (w 0) }) ∷ []); span = o }) (present (stmt_then (SAssign (record { name = (w 61); index = None }) (n 44) o) (stmt_then (SCall (record { task = (record { name = (w 47); index = None }); entry = (w 48); args = (Some (record { first = ((EInteger 1 o) ∷ (n 44) ∷ (EInteger 2 o) ∷ (EInteger 0 o) ∷ (EInteger 1 o) ∷ (n 45) ∷ []); second = None })) }) o) (stmt_then (SAssign (record { name = (w 62); index = None }) (n 45) o) no_stmt))))) o) no_stmt) (handler_then (handler [] (stmt_then (SCall (record { task = (record { name = (w 47); index = None }); entry = (w 48); args = (Some (record { first = ((EInteger 2 o) ∷ (EInteger 1 o) ∷ (n 61) ∷ (EInteger 0 o) ∷ (EInteger 0 o) ∷ (n 45) ∷ []); second = None })) }) o) (stmt_then (SRaise None o) no_stmt)) o) no_handler)) o) (stmt_then (SExit None (Some (EUnary unary.Not (n 62) o)) o) no_stmt)) o) (stmt_then (SCall (record { task = (record { name = (w 47); index = None }); entry = (w 48); args = (Some (record { first = ((EInteger 2 o) ∷ (EInteger 1 o) ∷ (n 61) ∷ (EInteger 0 o) ∷ (EInteger 0 o) ∷ (n 45) ∷ []); second = None })) }) o) no_stmt)))) no_arm) absent o) no_stmt)))))) (stmt_then (SIf (arm_then (arm (n 60) (stmt_then (SAssign (record { name = (w 46); index = None }) (EInteger 0 o) o) no_stmt)) no_arm) (present (stmt_then (SAssign (record { name = (w 46); index = None }) (EInteger 1 o) o) no_stmt)) o) no_stmt)) o) (alt_then (alternative None (AAccept (accepting (record { entry = (w 29); index = None; formals = ((record { names = ((w 44) ∷ []); mode = mode.Take; mark = (w 0) }) ∷ []); span = o }) (present (stmt_then (SAssign (record { name = (w 59); index = None }) (n 44) o) (stmt_then (SCall (record { task = (record { name = (w 47); index = None }); entry = (w 48); args = (Some (record { first = ((EInteger 1 o) ∷ (n 44) ∷ (EInteger 2 o) ∷ (EInteger 0 o) ∷ (EInteger 1 o) ∷ (n 45) ∷ []); second = None })) }) o) (stmt_then (SAssign (record { name = (w 60); index = None }) (n 45) o) no_stmt))))) (stmt_then (SIf (arm_then (arm (n 60) (stmt_then (SAssign (record { name = (w 46); index = None }) (EInteger 0 o) o) no_stmt)) no_arm) (present (stmt_then (SAssign (record { name = (w 46); index = None }) (EInteger 2 o) o) no_stmt)) o) no_stmt)) o) (alt_then (alternative None (ADelay 1000 (stmt_then (SCall (record { task = (record { name = (w 47); index = None }); entry = (w 48); args = (Some (record { first = ((EInteger 4 o) ∷ (EInteger 1 o) ∷ (EInteger 1 o) ∷ (EInteger 0 o) ∷ (EInteger 0 o) ∷ (n 45) ∷ []); second = None })) }) o) (stmt_then (SAssign (record { name = (w 46); index = None }) (EInteger 3 o) o) no_stmt))) o) (alt_then (alternative None (ADelay 2000 (stmt_then (SCall (record { task = (record { name = (w 47); index = None }); entry = (w 48); args = (Some (record { first = ((EInteger 4 o) ∷ (EInteger 1 o) ∷ (EInteger 2 o) ∷ (EInteger 0 o) ∷ (EInteger 0 o) ∷ (n 45) ∷ []); second = None })) }) o) (stmt_then (SAssign (record { name = (w 46); index = None }) (EInteger 4 o) o) no_stmt))) o) no_alt)))) absent o) no_stmt) (handler_then (handler [] (stmt_then (SCall (record { task = (record { name = (w 47); index = None }); entry = (w 48); args = (Some (record { first = ((EInteger 2 o) ∷ (EInteger 1 o) ∷ (n 59) ∷ (EInteger 0 o) ∷ (EInteger 0 o) ∷ (n 45) ∷ []); second = None })) }) o) (stmt_then (SRaise None o) no_stmt)) o) no_handler)) o) (stmt_then (SExit None (Some (EBinary binary.NotEqual (n 46) (EInteger 0 o) o)) o) no_stmt)) o) (stmt_then (SIf (arm_then (arm (EBinary binary.Equal (n 46) (EInteger 1 o) o) (stmt_then (SCall (record { task = (record { name = (w 47); index = None }); entry = (w 48); args = (Some (record { first = ((EInteger 2 o) ∷ (EInteger 1 o) ∷ (n 59) ∷ (EInteger 0 o) ∷ (EInteger 0 o) ∷ (n 45) ∷ []); second = None })) }) o) no_stmt)) (arm_then (arm (EBinary binary.Equal (n 46) (EInteger 2 o) o) (stmt_then (SCall (record { task = (record { name = (w 47); index = None }); entry = (w 48); args = (Some (record { first = ((EInteger 2 o) ∷ (EInteger 1 o) ∷ (n 59) ∷ (EInteger 0 o) ∷ (EInteger 0 o) ∷ (n 45) ∷ []); second = None })) }) o) (stmt_then (SPut ((PWords (codes "G") o) ∷ []) o) no_stmt))) (arm_then (arm (EBinary binary.Equal (n 46) (EInteger 3 o) o) (stmt_then (SNull o) no_stmt)) (arm_then (arm (EBinary binary.Equal (n 46) (EInteger 4 o) o) (stmt_then (SPut ((PWords (codes "D") o) ∷ []) o) no_stmt)) no_arm)))) absent o) (stmt_then (SLoop None None (stmt_then (SLoop None None (stmt_then (SBlock (body (stmt_then (SWait (alt_then (alternative None (AAccept (accepting (record { entry = (w 27); index = (Some (EInteger 3 o)); formals = ((record { names = ((w 44) ∷ []); mode = mode.Take; mark = (w 0) }) ∷ (record { names = ((w 28) ∷ []); mode = mode.Both; mark = (w 0) }) ∷ []); span = o }) (present (stmt_then (SAssign (record { name = (w 63); index = None }) (n 44) o) (stmt_then (SCall (record { task = (record { name = (w 47); index = None }); entry = (w 48); args = (Some (record { first = ((EInteger 1 o) ∷ (n 44) ∷ (EInteger 1 o) ∷ (EInteger 3 o) ∷ (EInteger 1 o) ∷ (n 45) ∷ []); second = None })) }) o) (stmt_then (SAssign (record { name = (w 64); index = None }) (n 45) o) no_stmt))))) (stmt_then (SIf (arm_then (arm (n 64) (stmt_then (SAssign (record { name = (w 46); index = None }) (EInteger 0 o) o) no_stmt)) no_arm) (present (stmt_then (SAssign (record { name = (w 46); index = None }) (EInteger 1 o) o) no_stmt)) o) no_stmt)) o) (alt_then (alternative None (AAccept (accepting (record { entry = (w 29); index = None; formals = ((record { names = ((w 44) ∷ []); mode = mode.Take; mark = (w 0) }) ∷ []); span = o }) (present (stmt_then (SAssign (record { name = (w 63); index = None }) (n 44) o) (stmt_then (SCall (record { task = (record { name = (w 47); index = None }); entry = (w 48); args = (Some (record { first = ((EInteger 1 o) ∷ (n 44) ∷ (EInteger 2 o) ∷ (EInteger 0 o) ∷ (EInteger 1 o) ∷ (n 45) ∷ []); second = None })) }) o) (stmt_then (SAssign (record { name = (w 64); index = None }) (n 45) o) (stmt_then (SIf (arm_then (arm (EUnary unary.Not (n 64) o) (stmt_then (SPut ((PWords (codes "G") o) ∷ []) o) no_stmt)) no_arm) absent o) no_stmt)))))) (stmt_then (SIf (arm_then (arm (n 64) (stmt_then (SAssign (record { name = (w 46); index = None }) (EInteger 0 o) o) no_stmt)) no_arm) (present (stmt_then (SAssign (record { name = (w 46); index = None }) (EInteger 2 o) o) no_stmt)) o) no_stmt)) o) no_alt)) (present (stmt_then (SCall (record { task = (record { name = (w 47); index = None }); entry = (w 48); args = (Some (record { first = ((EInteger 3 o) ∷ (EInteger 1 o) ∷ (EInteger 0 o) ∷ (EInteger 0 o) ∷ (EInteger 0 o) ∷ (n 45) ∷ []); second = None })) }) o) (stmt_then (SAssign (record { name = (w 46); index = None }) (EInteger 3 o) o) no_stmt))) o) no_stmt) (handler_then (handler [] (stmt_then (SCall (record { task = (record { name = (w 47); index = None }); entry = (w 48); args = (Some (record { first = ((EInteger 2 o) ∷ (EInteger 1 o) ∷ (n 63) ∷ (EInteger 0 o) ∷ (EInteger 0 o) ∷ (n 45) ∷ []); second = None })) }) o) (stmt_then (SRaise None o) no_stmt)) o) no_handler)) o) (stmt_then (SExit None (Some (EBinary binary.NotEqual (n 46) (EInteger 0 o) o)) o) no_stmt)) o) (stmt_then (SIf (arm_then (arm (EBinary binary.Equal (n 46) (EInteger 1 o) o) (stmt_then (SCall (record { task = (record { name = (w 47); index = None }); entry = (w 48); args = (Some (record { first = ((EInteger 2 o) ∷ (EInteger 1 o) ∷ (n 63) ∷ (EInteger 0 o) ∷ (EInteger 0 o) ∷ (n 45) ∷ []); second = None })) }) o) (stmt_then (SExit None None o) no_stmt))) (arm_then (arm (EBinary binary.Equal (n 46) (EInteger 2 o) o) (stmt_then (SCall (record { task = (record { name = (w 47); index = None }); entry = (w 48); args = (Some (record { first = ((EInteger 2 o) ∷ (EInteger 1 o) ∷ (n 63) ∷ (EInteger 0 o) ∷ (EInteger 0 o) ∷ (n 45) ∷ []); second = None })) }) o) no_stmt)) (arm_then (arm (EBinary binary.Equal (n 46) (EInteger 3 o) o) (stmt_then (SPut ((PWords (codes "E") o) ∷ []) o) no_stmt)) no_arm))) absent o) (stmt_then (SLoop None None (stmt_then (SBlock (body (stmt_then (SWait (alt_then (alternative None (AAccept (accepting (record { entry = (w 29); index = None; formals = ((record { names = ((w 44) ∷ []); mode = mode.Take; mark = (w 0) }) ∷ []); span = o }) (present (stmt_then (SAssign (record { name = (w 65); index = None }) (n 44) o) (stmt_then (SCall (record { task = (record { name = (w 47); index = None }); entry = (w 48); args = (Some (record { first = ((EInteger 1 o) ∷ (n 44) ∷ (EInteger 2 o) ∷ (EInteger 0 o) ∷ (EInteger 1 o) ∷ (n 45) ∷ []); second = None })) }) o) (stmt_then (SAssign (record { name = (w 66); index = None }) (n 45) o) no_stmt))))) (stmt_then (SIf (arm_then (arm (n 66) (stmt_then (SAssign (record { name = (w 46); index = None }) (EInteger 0 o) o) no_stmt)) no_arm) (present (stmt_then (SAssign (record { name = (w 46); index = None }) (EInteger 1 o) o) no_stmt)) o) no_stmt)) o) (alt_then (alternative None ATerminate o) no_alt)) absent o) no_stmt) (handler_then (handler [] (stmt_then (SCall (record { task = (record { name = (w 47); index = None }); entry = (w 48); args = (Some (record { first = ((EInteger 2 o) ∷ (EInteger 1 o) ∷ (n 65) ∷ (EInteger 0 o) ∷ (EInteger 0 o) ∷ (n 45) ∷ []); second = None })) }) o) (stmt_then (SRaise None o) no_stmt)) o) no_handler)) o) (stmt_then (SExit None (Some (EBinary binary.NotEqual (n 46) (EInteger 0 o) o)) o) no_stmt)) o) (stmt_then (SIf (arm_then (arm (EBinary binary.Equal (n 46) (EInteger 1 o) o) (stmt_then (SCall (record { task = (record { name = (w 47); index = None }); entry = (w 48); args = (Some (record { first = ((EInteger 2 o) ∷ (EInteger 1 o) ∷ (n 65) ∷ (EInteger 0 o) ∷ (EInteger 0 o) ∷ (n 45) ∷ []); second = None })) }) o) no_stmt)) no_arm) absent o) no_stmt)))) o) no_stmt))))) (handler_then (handler ((w 9) ∷ []) (stmt_then (SLoop None None (stmt_then (SBlock (body (stmt_then (SAccept (accepting (record { entry = (w 29); index = None; formals = ((record { names = ((w 44) ∷ []); mode = mode.Take; mark = (w 0) }) ∷ []); span = o }) (present (stmt_then (SAssign (record { name = (w 67); index = None }) (n 44) o) (stmt_then (SCall (record { task = (record { name = (w 47); index = None }); entry = (w 48); args = (Some (record { first = ((EInteger 1 o) ∷ (n 44) ∷ (EInteger 2 o) ∷ (EInteger 0 o) ∷ (EInteger 1 o) ∷ (n 45) ∷ []); second = None })) }) o) (stmt_then (SAssign (record { name = (w 68); index = None }) (n 45) o) (stmt_then (SIf (arm_then (arm (EUnary unary.Not (n 68) o) (stmt_then (SNull o) no_stmt)) no_arm) absent o) no_stmt)))))) o) no_stmt) (handler_then (handler [] (stmt_then (SCall (record { task = (record { name = (w 47); index = None }); entry = (w 48); args = (Some (record { first = ((EInteger 2 o) ∷ (EInteger 1 o) ∷ (n 67) ∷ (EInteger 0 o) ∷ (EInteger 0 o) ∷ (n 45) ∷ []); second = None })) }) o) (stmt_then (SRaise None o) no_stmt)) o) no_handler)) o) (stmt_then (SExit None (Some (EUnary unary.Not (n 68) o)) o) no_stmt)) o) (stmt_then (SCall (record { task = (record { name = (w 47); index = None }); entry = (w 48); args = (Some (record { first = ((EInteger 2 o) ∷ (EInteger 1 o) ∷ (n 67) ∷ (EInteger 0 o) ∷ (EInteger 0 o) ∷ (n 45) ∷ []); second = None })) }) o) no_stmt)) o) no_handler)) o) no_stmt) (handler_then (handler [] (stmt_then (SNull o) no_stmt) o) no_handler)) o) (stmt_then (SCall (record { task = (record { name = (w 47); index = None }); entry = (w 48); args = (Some (record { first = ((EInteger 8 o) ∷ (EInteger 1 o) ∷ (EInteger 0 o) ∷ (EInteger 0 o) ∷ (EInteger 0 o) ∷ (n 45) ∷ []); second = None })) }) o) no_stmt)) no_handler) o) (decl_then (DTaskBody (w 35) (decl_then (DObject ((w 32) ∷ []) false (OPlain (record { mark = (w 0); bounds = None })) (Some (IOne (EInteger 2 o))) o) (decl_then (DObject ((w 45) ∷ []) false (OPlain (record { mark = (w 3); bounds = None })) (Some (IOne (n 4))) o) (decl_then (DObject ((w 46) ∷ []) false (OPlain (record { mark = (w 0); bounds = None })) (Some (IOne (EInteger 0 o))) o) (decl_then (DObject ((w 59) ∷ []) false (OPlain (record { mark = (w 0); bounds = None })) (Some (IOne (EInteger 0 o))) o) (decl_then (DObject ((w 60) ∷ []) false (OPlain (record { mark = (w 3); bounds = None })) (Some (IOne (n 4))) o) (decl_then (DObject ((w 61) ∷ []) false (OPlain (record { mark = (w 0); bounds = None })) (Some (IOne (EInteger 0 o))) o) (decl_then (DObject ((w 62) ∷ []) false (OPlain (record { mark = (w 3); bounds = None })) (Some (IOne (n 4))) o) (decl_then (DObject ((w 63) ∷ []) false (OPlain (record { mark = (w 0); bounds = None })) (Some (IOne (EInteger 0 o))) o) (decl_then (DObject ((w 64) ∷ []) false (OPlain (record { mark = (w 3); bounds = None })) (Some (IOne (n 4))) o) (decl_then (DObject ((w 65) ∷ []) false (OPlain (record { mark = (w 0); bounds = None })) (Some (IOne (EInteger 0 o))) o) (decl_then (DObject ((w 66) ∷ []) false (OPlain (record { mark = (w 3); bounds = None })) (Some (IOne (n 4))) o) (decl_then (DObject ((w 67) ∷ []) false (OPlain (record { mark = (w 0); bounds = None })) (Some (IOne (EInteger 0 o))) o) (decl_then (DObject ((w 68) ∷ []) false (OPlain (record { mark = (w 3); bounds = None })) (Some (IOne (n 4))) o) (decl_then (DObject ((w 36) ∷ []) false (OPlain (record { mark = (w 3); bounds = None })) None o) (decl_then (DObject ((w 37) ∷ []) false (OPlain (record { mark = (w 0); bounds = (Some (record { first = (EInteger 1 o); last = (EInteger 3 o) })) })) None o) no_decl))))))))))))))) (body (stmt_then (SBlock (body (stmt_then (SBlock (body (stmt_then (SAssign (record { name = (w 36); index = None }) (EBinary binary.Equal (n 32) (EInteger 2 o) o) o) (stmt_then (SIf (arm_then (arm (n 36) (stmt_then (SAssign (record { name = (w 37); index = None }) (n 32) o) no_stmt)) no_arm) absent o) (stmt_then (SLoop None None (stmt_then (SBlock (body (stmt_then (SWait (alt_then (alternative (Some (n 36)) (AAccept (accepting (record { entry = (w 27); index = (Some (n 37)); formals = ((record { names = ((w 44) ∷ []); mode = mode.Take; mark = (w 0) }) ∷ (record { names = ((w 28) ∷ []); mode = mode.Both; mark = (w 0) }) ∷ []); span = o }) (present (stmt_then (SAssign (record { name = (w 59); index = None }) (n 44) o) (stmt_then (SCall (record { task = (record { name = (w 47); index = None }); entry = (w 48); args = (Some (record { first = ((EInteger 1 o) ∷ (n 44) ∷ (EInteger 3 o) ∷ (n 37) ∷ (EInteger 2 o) ∷ (n 45) ∷ []); second = None })) }) o) (stmt_then (SAssign (record { name = (w 60); index = None }) (n 45) o) (stmt_then (SIf (arm_then (arm (EUnary unary.Not (n 60) o) (stmt_then (SAssign (record { name = (w 28); index = None }) (EBinary binary.Plus (n 28) (EInteger 1 o) o) o) (stmt_then (SLoop None None (stmt_then (SBlock (body (stmt_then (SAccept (accepting (record { entry = (w 29); index = None; formals = ((record { names = ((w 44) ∷ []); mode = mode.Take; mark = (w 0) }) ∷ []); span = o }) (present (stmt_then (SAssign (record { name = (w 61); index = None }) (n 44) o) (stmt_then (SCall (record { task = (record { name = (w 47); index = None }); entry = (w 48); args = (Some (record { first = ((EInteger 1 o) ∷ (n 44) ∷ (EInteger 4 o) ∷ (EInteger 0 o) ∷ (EInteger 2 o) ∷ (n 45) ∷ []); second = None })) }) o) (stmt_then (SAssign (record { name = (w 62); index = None }) (n 45) o) no_stmt))))) o) no_stmt) (handler_then (handler [] (stmt_then (SCall (record { task = (record { name = (w 47); index = None }); entry = (w 48); args = (Some (record { first = ((EInteger 2 o) ∷ (EInteger 2 o) ∷ (n 61) ∷ (EInteger 0 o) ∷ (EInteger 0 o) ∷ (n 45) ∷ []); second = None })) }) o) (stmt_then (SRaise None o) no_stmt)) o) no_handler)) o) (stmt_then (SExit None (Some (EUnary unary.Not (n 62) o)) o) no_stmt)) o) (stmt_then (SCall (record { task = (record { name = (w 47); index = None }); entry = (w 48); args = (Some (record { first = ((EInteger 2 o) ∷ (EInteger 2 o) ∷ (n 61) ∷ (EInteger 0 o) ∷ (EInteger 0 o) ∷ (n 45) ∷ []); second = None })) }) o) no_stmt)))) no_arm) absent o) no_stmt)))))) (stmt_then (SIf (arm_then (arm (n 60) (stmt_then (SAssign (record { name = (w 46); index = None }) (EInteger 0 o) o) no_stmt)) no_arm) (present (stmt_then (SAssign (record { name = (w 46); index = None }) (EInteger 1 o) o) no_stmt)) o) no_stmt)) o) (alt_then (alternative None (AAccept (accepting (record { entry = (w 29); index = None; formals = ((record { names = ((w 44) ∷ []); mode = mode.Take; mark = (w 0) }) ∷ []); span = o }) (present (stmt_then (SAssign (record { name = (w 59); index = None }) (n 44) o) (stmt_then (SCall (record { task = (record { name = (w 47); index = None }); entry = (w 48); args = (Some (record { first = ((EInteger 1 o) ∷ (n 44) ∷ (EInteger 4 o) ∷ (EInteger 0 o) ∷ (EInteger 2 o) ∷ (n 45) ∷ []); second = None })) }) o) (stmt_then (SAssign (record { name = (w 60); index = None }) (n 45) o) no_stmt))))) (stmt_then (SIf (arm_then (arm (n 60) (stmt_then (SAssign (record { name = (w 46); index = None }) (EInteger 0 o) o) no_stmt)) no_arm) (present (stmt_then (SAssign (record { name = (w 46); index = None }) (EInteger 2 o) o) no_stmt)) o) no_stmt)) o) (alt_then (alternative None (ADelay 1000 (stmt_then (SCall (record { task = (record { name = (w 47); index = None }); entry = (w 48); args = (Some (record { first = ((EInteger 4 o) ∷ (EInteger 2 o) ∷ (EInteger 1 o) ∷ (EInteger 0 o) ∷ (EInteger 0 o) ∷ (n 45) ∷ []); second = None })) }) o) (stmt_then (SAssign (record { name = (w 46); index = None }) (EInteger 3 o) o) no_stmt))) o) (alt_then (alternative None (ADelay 2000 (stmt_then (SCall (record { task = (record { name = (w 47); index = None }); entry = (w 48); args = (Some (record { first = ((EInteger 4 o) ∷ (EInteger 2 o) ∷ (EInteger 2 o) ∷ (EInteger 0 o) ∷ (EInteger 0 o) ∷ (n 45) ∷ []); second = None })) }) o) (stmt_then (SAssign (record { name = (w 46); index = None }) (EInteger 4 o) o) no_stmt))) o) no_alt)))) absent o) no_stmt) (handler_then (handler [] (stmt_then (SCall (record { task = (record { name = (w 47); index = None }); entry = (w 48); args = (Some (record { first = ((EInteger 2 o) ∷ (EInteger 2 o) ∷ (n 59) ∷ (EInteger 0 o) ∷ (EInteger 0 o) ∷ (n 45) ∷ []); second = None })) }) o) (stmt_then (SRaise None o) no_stmt)) o) no_handler)) o) (stmt_then (SExit None (Some (EBinary binary.NotEqual (n 46) (EInteger 0 o) o)) o) no_stmt)) o) (stmt_then (SIf (arm_then (arm (EBinary binary.Equal (n 46) (EInteger 1 o) o) (stmt_then (SCall (record { task = (record { name = (w 47); index = None }); entry = (w 48); args = (Some (record { first = ((EInteger 2 o) ∷ (EInteger 2 o) ∷ (n 59) ∷ (EInteger 0 o) ∷ (EInteger 0 o) ∷ (n 45) ∷ []); second = None })) }) o) no_stmt)) (arm_then (arm (EBinary binary.Equal (n 46) (EInteger 2 o) o) (stmt_then (SCall (record { task = (record { name = (w 47); index = None }); entry = (w 48); args = (Some (record { first = ((EInteger 2 o) ∷ (EInteger 2 o) ∷ (n 59) ∷ (EInteger 0 o) ∷ (EInteger 0 o) ∷ (n 45) ∷ []); second = None })) }) o) (stmt_then (SPut ((PWords (codes "G") o) ∷ []) o) no_stmt))) (arm_then (arm (EBinary binary.Equal (n 46) (EInteger 3 o) o) (stmt_then (SNull o) no_stmt)) (arm_then (arm (EBinary binary.Equal (n 46) (EInteger 4 o) o) (stmt_then (SPut ((PWords (codes "D") o) ∷ []) o) no_stmt)) no_arm)))) absent o) (stmt_then (SLoop None None (stmt_then (SLoop None None (stmt_then (SBlock (body (stmt_then (SWait (alt_then (alternative None (AAccept (accepting (record { entry = (w 27); index = (Some (EInteger 3 o)); formals = ((record { names = ((w 44) ∷ []); mode = mode.Take; mark = (w 0) }) ∷ (record { names = ((w 28) ∷ []); mode = mode.Both; mark = (w 0) }) ∷ []); span = o }) (present (stmt_then (SAssign (record { name = (w 63); index = None }) (n 44) o) (stmt_then (SCall (record { task = (record { name = (w 47); index = None }); entry = (w 48); args = (Some (record { first = ((EInteger 1 o) ∷ (n 44) ∷ (EInteger 3 o) ∷ (EInteger 3 o) ∷ (EInteger 2 o) ∷ (n 45) ∷ []); second = None })) }) o) (stmt_then (SAssign (record { name = (w 64); index = None }) (n 45) o) no_stmt))))) (stmt_then (SIf (arm_then (arm (n 64) (stmt_then (SAssign (record { name = (w 46); index = None }) (EInteger 0 o) o) no_stmt)) no_arm) (present (stmt_then (SAssign (record { name = (w 46); index = None }) (EInteger 1 o) o) no_stmt)) o) no_stmt)) o) (alt_then (alternative None (AAccept (accepting (record { entry = (w 29); index = None; formals = ((record { names = ((w 44) ∷ []); mode = mode.Take; mark = (w 0) }) ∷ []); span = o }) (present (stmt_then (SAssign (record { name = (w 63); index = None }) (n 44) o) (stmt_then (SCall (record { task = (record { name = (w 47); index = None }); entry = (w 48); args = (Some (record { first = ((EInteger 1 o) ∷ (n 44) ∷ (EInteger 4 o) ∷ (EInteger 0 o) ∷ (EInteger 2 o) ∷ (n 45) ∷ []); second = None })) }) o) (stmt_then (SAssign (record { name = (w 64); index = None }) (n 45) o) (stmt_then (SIf (arm_then (arm (EUnary unary.Not (n 64) o) (stmt_then (SPut ((PWords (codes "G") o) ∷ []) o) no_stmt)) no_arm) absent o) no_stmt)))))) (stmt_then (SIf (arm_then (arm (n 64) (stmt_then (SAssign (record { name = (w 46); index = None }) (EInteger 0 o) o) no_stmt)) no_arm) (present (stmt_then (SAssign (record { name = (w 46); index = None }) (EInteger 2 o) o) no_stmt)) o) no_stmt)) o) no_alt)) (present (stmt_then (SCall (record { task = (record { name = (w 47); index = None }); entry = (w 48); args = (Some (record { first = ((EInteger 3 o) ∷ (EInteger 2 o) ∷ (EInteger 0 o) ∷ (EInteger 0 o) ∷ (EInteger 0 o) ∷ (n 45) ∷ []); second = None })) }) o) (stmt_then (SAssign (record { name = (w 46); index = None }) (EInteger 3 o) o) no_stmt))) o) no_stmt) (handler_then (handler [] (stmt_then (SCall (record { task = (record { name = (w 47); index = None }); entry = (w 48); args = (Some (record { first = ((EInteger 2 o) ∷ (EInteger 2 o) ∷ (n 63) ∷ (EInteger 0 o) ∷ (EInteger 0 o) ∷ (n 45) ∷ []); second = None })) }) o) (stmt_then (SRaise None o) no_stmt)) o) no_handler)) o) (stmt_then (SExit None (Some (EBinary binary.NotEqual (n 46) (EInteger 0 o) o)) o) no_stmt)) o) (stmt_then (SIf (arm_then (arm (EBinary binary.Equal (n 46) (EInteger 1 o) o) (stmt_then (SCall (record { task = (record { name = (w 47); index = None }); entry = (w 48); args = (Some (record { first = ((EInteger 2 o) ∷ (EInteger 2 o) ∷ (n 63) ∷ (EInteger 0 o) ∷ (EInteger 0 o) ∷ (n 45) ∷ []); second = None })) }) o) (stmt_then (SExit None None o) no_stmt))) (arm_then (arm (EBinary binary.Equal (n 46) (EInteger 2 o) o) (stmt_then (SCall (record { task = (record { name = (w 47); index = None }); entry = (w 48); args = (Some (record { first = ((EInteger 2 o) ∷ (EInteger 2 o) ∷ (n 63) ∷ (EInteger 0 o) ∷ (EInteger 0 o) ∷ (n 45) ∷ []); second = None })) }) o) no_stmt)) (arm_then (arm (EBinary binary.Equal (n 46) (EInteger 3 o) o) (stmt_then (SPut ((PWords (codes "E") o) ∷ []) o) no_stmt)) no_arm))) absent o) (stmt_then (SLoop None None (stmt_then (SBlock (body (stmt_then (SWait (alt_then (alternative None (AAccept (accepting (record { entry = (w 29); index = None; formals = ((record { names = ((w 44) ∷ []); mode = mode.Take; mark = (w 0) }) ∷ []); span = o }) (present (stmt_then (SAssign (record { name = (w 65); index = None }) (n 44) o) (stmt_then (SCall (record { task = (record { name = (w 47); index = None }); entry = (w 48); args = (Some (record { first = ((EInteger 1 o) ∷ (n 44) ∷ (EInteger 4 o) ∷ (EInteger 0 o) ∷ (EInteger 2 o) ∷ (n 45) ∷ []); second = None })) }) o) (stmt_then (SAssign (record { name = (w 66); index = None }) (n 45) o) no_stmt))))) (stmt_then (SIf (arm_then (arm (n 66) (stmt_then (SAssign (record { name = (w 46); index = None }) (EInteger 0 o) o) no_stmt)) no_arm) (present (stmt_then (SAssign (record { name = (w 46); index = None }) (EInteger 1 o) o) no_stmt)) o) no_stmt)) o) (alt_then (alternative None ATerminate o) no_alt)) absent o) no_stmt) (handler_then (handler [] (stmt_then (SCall (record { task = (record { name = (w 47); index = None }); entry = (w 48); args = (Some (record { first = ((EInteger 2 o) ∷ (EInteger 2 o) ∷ (n 65) ∷ (EInteger 0 o) ∷ (EInteger 0 o) ∷ (n 45) ∷ []); second = None })) }) o) (stmt_then (SRaise None o) no_stmt)) o) no_handler)) o) (stmt_then (SExit None (Some (EBinary binary.NotEqual (n 46) (EInteger 0 o) o)) o) no_stmt)) o) (stmt_then (SIf (arm_then (arm (EBinary binary.Equal (n 46) (EInteger 1 o) o) (stmt_then (SCall (record { task = (record { name = (w 47); index = None }); entry = (w 48); args = (Some (record { first = ((EInteger 2 o) ∷ (EInteger 2 o) ∷ (n 65) ∷ (EInteger 0 o) ∷ (EInteger 0 o) ∷ (n 45) ∷ []); second = None })) }) o) no_stmt)) no_arm) absent o) no_stmt)))) o) no_stmt))))) (handler_then (handler ((w 9) ∷ []) (stmt_then (SLoop None None (stmt_then (SBlock (body (stmt_then (SAccept (accepting (record { entry = (w 29); index = None; formals = ((record { names = ((w 44) ∷ []); mode = mode.Take; mark = (w 0) }) ∷ []); span = o }) (present (stmt_then (SAssign (record { name = (w 67); index = None }) (n 44) o) (stmt_then (SCall (record { task = (record { name = (w 47); index = None }); entry = (w 48); args = (Some (record { first = ((EInteger 1 o) ∷ (n 44) ∷ (EInteger 4 o) ∷ (EInteger 0 o) ∷ (EInteger 2 o) ∷ (n 45) ∷ []); second = None })) }) o) (stmt_then (SAssign (record { name = (w 68); index = None }) (n 45) o) (stmt_then (SIf (arm_then (arm (EUnary unary.Not (n 68) o) (stmt_then (SNull o) no_stmt)) no_arm) absent o) no_stmt)))))) o) no_stmt) (handler_then (handler [] (stmt_then (SCall (record { task = (record { name = (w 47); index = None }); entry = (w 48); args = (Some (record { first = ((EInteger 2 o) ∷ (EInteger 2 o) ∷ (n 67) ∷ (EInteger 0 o) ∷ (EInteger 0 o) ∷ (n 45) ∷ []); second = None })) }) o) (stmt_then (SRaise None o) no_stmt)) o) no_handler)) o) (stmt_then (SExit None (Some (EUnary unary.Not (n 68) o)) o) no_stmt)) o) (stmt_then (SCall (record { task = (record { name = (w 47); index = None }); entry = (w 48); args = (Some (record { first = ((EInteger 2 o) ∷ (EInteger 2 o) ∷ (n 67) ∷ (EInteger 0 o) ∷ (EInteger 0 o) ∷ (n 45) ∷ []); second = None })) }) o) no_stmt)) o) no_handler)) o) no_stmt) (handler_then (handler [] (stmt_then (SNull o) no_stmt) o) no_handler)) o) (stmt_then (SCall (record { task = (record { name = (w 47); index = None }); entry = (w 48); args = (Some (record { first = ((EInteger 8 o) ∷ (EInteger 2 o) ∷ (EInteger 0 o) ∷ (EInteger 0 o) ∷ (EInteger 0 o) ∷ (n 45) ∷ []); second = None })) }) o) no_stmt)) no_handler) o) (decl_then (DTaskBody (w 31) (decl_then (DObject ((w 33) ∷ []) false (OPlain (record { mark = (w 0); bounds = None })) (Some (IOne (EInteger 1 o))) o) (decl_then (DObject ((w 45) ∷ []) false (OPlain (record { mark = (w 3); bounds = None })) (Some (IOne (n 4))) o) (decl_then (DObject ((w 46) ∷ []) false (OPlain (record { mark = (w 0); bounds = None })) (Some (IOne (EInteger 0 o))) o) (decl_then (DObject ((w 36) ∷ []) false (OPlain (record { mark = (w 0); bounds = (Some (record { first = (EInteger 1 o); last = (EInteger 2 o) })) })) None o) (decl_then (DObject ((w 37) ∷ []) false (OPlain (record { mark = (w 0); bounds = (Some (record { first = (EInteger 1 o); last = (EInteger 3 o) })) })) None o) (decl_then (DObject ((w 38) ∷ []) false (OPlain (record { mark = (w 0); bounds = None })) None o) (decl_then (DObject ((w 39) ∷ []) false (OPlain (record { mark = (w 0); bounds = (Some (record { first = (EInteger 1 o); last = (EInteger 2 o) })) })) None o) (decl_then (DObject ((w 40) ∷ []) false (OPlain (record { mark = (w 0); bounds = None })) None o) (decl_then (DObject ((w 41) ∷ []) false (OPlain (record { mark = (w 0); bounds = (Some (record { first = (EInteger 1 o); last = (EInteger 2 o) })) })) None o) no_decl))))))))) (body (stmt_then (SBlock (body (stmt_then (SAssign (record { name = (w 36); index = None }) (n 33) o) (stmt_then (SCase (n 36) (case_arm_then (case_arm ((record { first = (EInteger 1 o); last = None }) ∷ []) (stmt_then (SCall (record { task = (record { name = (w 47); index = None }); entry = (w 48); args = (Some (record { first = ((EInteger 0 o) ∷ (EInteger 3 o) ∷ (EInteger 0 o) ∷ (EInteger 0 o) ∷ (EInteger 0 o) ∷ (n 45) ∷ []); second = None })) }) o) (stmt_then (SBlock (body (stmt_then (SCall (record { task = (record { name = (w 34); index = None }); entry = (w 29); args = (Some (record { first = ((EInteger 3 o) ∷ []); second = None })) }) o) no_stmt) (handler_then (handler [] (stmt_then (SCall (record { task = (record { name = (w 47); index = None }); entry = (w 48); args = (Some (record { first = ((EInteger 7 o) ∷ (EInteger 3 o) ∷ (EInteger 2 o) ∷ (EInteger 0 o) ∷ (EInteger 1 o) ∷ (n 45) ∷ []); second = None })) }) o) (stmt_then (SIf (arm_then (arm (n 45) (stmt_then (SRaise (Some (w 9)) o) no_stmt)) no_arm) absent o) (stmt_then (SRaise None o) no_stmt))) o) no_handler)) o) (stmt_then (SCall (record { task = (record { name = (w 47); index = None }); entry = (w 48); args = (Some (record { first = ((EInteger 10 o) ∷ (EInteger 3 o) ∷ (EInteger 0 o) ∷ (EInteger 0 o) ∷ (EInteger 0 o) ∷ (n 45) ∷ []); second = None })) }) o) (stmt_then (SIf (arm_then (arm (n 45) (stmt_then (SRaise (Some (w 9)) o) no_stmt)) no_arm) absent o) no_stmt))))) (case_arm_then (case_arm ((record { first = (EInteger 2 o); last = None }) ∷ []) (stmt_then (SCall (record { task = (record { name = (w 47); index = None }); entry = (w 48); args = (Some (record { first = ((EInteger 0 o) ∷ (EInteger 3 o) ∷ (EInteger 0 o) ∷ (EInteger 0 o) ∷ (EInteger 0 o) ∷ (n 45) ∷ []); second = None })) }) o) (stmt_then (SBlock (body (stmt_then (SCall (record { task = (record { name = (w 35); index = None }); entry = (w 29); args = (Some (record { first = ((EInteger 3 o) ∷ []); second = None })) }) o) no_stmt) (handler_then (handler [] (stmt_then (SCall (record { task = (record { name = (w 47); index = None }); entry = (w 48); args = (Some (record { first = ((EInteger 7 o) ∷ (EInteger 3 o) ∷ (EInteger 4 o) ∷ (EInteger 0 o) ∷ (EInteger 2 o) ∷ (n 45) ∷ []); second = None })) }) o) (stmt_then (SIf (arm_then (arm (n 45) (stmt_then (SRaise (Some (w 9)) o) no_stmt)) no_arm) absent o) (stmt_then (SRaise None o) no_stmt))) o) no_handler)) o) (stmt_then (SCall (record { task = (record { name = (w 47); index = None }); entry = (w 48); args = (Some (record { first = ((EInteger 10 o) ∷ (EInteger 3 o) ∷ (EInteger 0 o) ∷ (EInteger 0 o) ∷ (EInteger 0 o) ∷ (n 45) ∷ []); second = None })) }) o) (stmt_then (SIf (arm_then (arm (n 45) (stmt_then (SRaise (Some (w 9)) o) no_stmt)) no_arm) absent o) no_stmt))))) no_case_arm)) (present (stmt_then (SNull o) no_stmt)) o) (stmt_then (SAssign (record { name = (w 37); index = None }) (n 33) o) (stmt_then (SAssign (record { name = (w 38); index = None }) (n 33) o) (stmt_then (SCall (record { task = (record { name = (w 47); index = None }); entry = (w 48); args = (Some (record { first = ((EInteger 0 o) ∷ (EInteger 3 o) ∷ (EInteger 0 o) ∷ (EInteger 0 o) ∷ (EInteger 0 o) ∷ (n 45) ∷ []); second = None })) }) o) (stmt_then (SBlock (body (stmt_then (SConditional (record { task = (record { name = (w 34); index = None }); entry = (w 27); args = (Some (record { first = ((n 37) ∷ []); second = (Some ((EInteger 3 o) ∷ (n 38) ∷ [])) })) }) (stmt_then (SAssign (record { name = (w 46); index = None }) (EInteger 1 o) o) no_stmt) (stmt_then (SAssign (record { name = (w 46); index = None }) (EInteger 2 o) o) no_stmt) o) no_stmt) (handler_then (handler [] (stmt_then (SCall (record { task = (record { name = (w 47); index = None }); entry = (w 48); args = (Some (record { first = ((EInteger 7 o) ∷ (EInteger 3 o) ∷ (EInteger 1 o) ∷ (n 37) ∷ (EInteger 1 o) ∷ (n 45) ∷ []); second = None })) }) o) (stmt_then (SIf (arm_then (arm (n 45) (stmt_then (SRaise (Some (w 9)) o) no_stmt)) no_arm) absent o) (stmt_then (SRaise None o) no_stmt))) o) no_handler)) o) (stmt_then (SIf (arm_then (arm (EBinary binary.Equal (n 46) (EInteger 1 o) o) (stmt_then (SCall (record { task = (record { name = (w 47); index = None }); entry = (w 48); args = (Some (record { first = ((EInteger 10 o) ∷ (EInteger 3 o) ∷ (EInteger 0 o) ∷ (EInteger 0 o) ∷ (EInteger 0 o) ∷ (n 45) ∷ []); second = None })) }) o) (stmt_then (SIf (arm_then (arm (n 45) (stmt_then (SRaise (Some (w 9)) o) no_stmt)) no_arm) absent o) (stmt_then (SAssign (record { name = (w 33); index = None }) (n 38) o) (stmt_then (SPut ((PWords (codes "M") o) ∷ []) o) no_stmt))))) no_arm) (present (stmt_then (SCall (record { task = (record { name = (w 47); index = None }); entry = (w 48); args = (Some (record { first = ((EInteger 5 o) ∷ (EInteger 3 o) ∷ (EInteger 1 o) ∷ (n 37) ∷ (EInteger 1 o) ∷ (n 45) ∷ []); second = None })) }) o) (stmt_then (SIf (arm_then (arm (n 45) (stmt_then (SRaise (Some (w 9)) o) no_stmt)) no_arm) absent o) (stmt_then (SPut ((PWords (codes "C") o) ∷ []) o) no_stmt)))) o) (stmt_then (SCall (record { task = (record { name = (w 47); index = None }); entry = (w 48); args = (Some (record { first = ((EInteger 0 o) ∷ (EInteger 3 o) ∷ (EInteger 0 o) ∷ (EInteger 0 o) ∷ (EInteger 0 o) ∷ (n 45) ∷ []); second = None })) }) o) (stmt_then (SBlock (body (stmt_then (STimed (record { task = (record { name = (w 35); index = None }); entry = (w 29); args = (Some (record { first = ((EInteger 3 o) ∷ []); second = None })) }) (stmt_then (SAssign (record { name = (w 46); index = None }) (EInteger 1 o) o) no_stmt) 500 (stmt_then (SAssign (record { name = (w 46); index = None }) (EInteger 2 o) o) no_stmt) o) no_stmt) (handler_then (handler [] (stmt_then (SCall (record { task = (record { name = (w 47); index = None }); entry = (w 48); args = (Some (record { first = ((EInteger 7 o) ∷ (EInteger 3 o) ∷ (EInteger 4 o) ∷ (EInteger 0 o) ∷ (EInteger 2 o) ∷ (n 45) ∷ []); second = None })) }) o) (stmt_then (SIf (arm_then (arm (n 45) (stmt_then (SRaise (Some (w 9)) o) no_stmt)) no_arm) absent o) (stmt_then (SRaise None o) no_stmt))) o) no_handler)) o) (stmt_then (SIf (arm_then (arm (EBinary binary.Equal (n 46) (EInteger 1 o) o) (stmt_then (SCall (record { task = (record { name = (w 47); index = None }); entry = (w 48); args = (Some (record { first = ((EInteger 10 o) ∷ (EInteger 3 o) ∷ (EInteger 0 o) ∷ (EInteger 0 o) ∷ (EInteger 0 o) ∷ (n 45) ∷ []); second = None })) }) o) (stmt_then (SIf (arm_then (arm (n 45) (stmt_then (SRaise (Some (w 9)) o) no_stmt)) no_arm) absent o) no_stmt))) no_arm) (present (stmt_then (SCall (record { task = (record { name = (w 47); index = None }); entry = (w 48); args = (Some (record { first = ((EInteger 6 o) ∷ (EInteger 3 o) ∷ (EInteger 4 o) ∷ (EInteger 0 o) ∷ (EInteger 2 o) ∷ (n 45) ∷ []); second = None })) }) o) (stmt_then (SIf (arm_then (arm (n 45) (stmt_then (SRaise (Some (w 9)) o) no_stmt)) no_arm) absent o) no_stmt))) o) (stmt_then (SAssign (record { name = (w 39); index = None }) (n 33) o) (stmt_then (SCase (n 39) (case_arm_then (case_arm ((record { first = (EInteger 1 o); last = None }) ∷ []) (stmt_then (SCall (record { task = (record { name = (w 47); index = None }); entry = (w 48); args = (Some (record { first = ((EInteger 0 o) ∷ (EInteger 3 o) ∷ (EInteger 0 o) ∷ (EInteger 0 o) ∷ (EInteger 0 o) ∷ (n 45) ∷ []); second = None })) }) o) (stmt_then (SBlock (body (stmt_then (SConditional (record { task = (record { name = (w 34); index = None }); entry = (w 29); args = (Some (record { first = ((EInteger 3 o) ∷ []); second = None })) }) (stmt_then (SAssign (record { name = (w 46); index = None }) (EInteger 1 o) o) no_stmt) (stmt_then (SAssign (record { name = (w 46); index = None }) (EInteger 2 o) o) no_stmt) o) no_stmt) (handler_then (handler [] (stmt_then (SCall (record { task = (record { name = (w 47); index = None }); entry = (w 48); args = (Some (record { first = ((EInteger 7 o) ∷ (EInteger 3 o) ∷ (EInteger 2 o) ∷ (EInteger 0 o) ∷ (EInteger 1 o) ∷ (n 45) ∷ []); second = None })) }) o) (stmt_then (SIf (arm_then (arm (n 45) (stmt_then (SRaise (Some (w 9)) o) no_stmt)) no_arm) absent o) (stmt_then (SRaise None o) no_stmt))) o) no_handler)) o) (stmt_then (SIf (arm_then (arm (EBinary binary.Equal (n 46) (EInteger 1 o) o) (stmt_then (SCall (record { task = (record { name = (w 47); index = None }); entry = (w 48); args = (Some (record { first = ((EInteger 10 o) ∷ (EInteger 3 o) ∷ (EInteger 0 o) ∷ (EInteger 0 o) ∷ (EInteger 0 o) ∷ (n 45) ∷ []); second = None })) }) o) (stmt_then (SIf (arm_then (arm (n 45) (stmt_then (SRaise (Some (w 9)) o) no_stmt)) no_arm) absent o) (stmt_then (SAssign (record { name = (w 40); index = None }) (EInteger 1 o) o) no_stmt)))) no_arm) (present (stmt_then (SCall (record { task = (record { name = (w 47); index = None }); entry = (w 48); args = (Some (record { first = ((EInteger 5 o) ∷ (EInteger 3 o) ∷ (EInteger 2 o) ∷ (EInteger 0 o) ∷ (EInteger 1 o) ∷ (n 45) ∷ []); second = None })) }) o) (stmt_then (SIf (arm_then (arm (n 45) (stmt_then (SRaise (Some (w 9)) o) no_stmt)) no_arm) absent o) (stmt_then (SAssign (record { name = (w 40); index = None }) (EInteger 2 o) o) no_stmt)))) o) no_stmt)))) (case_arm_then (case_arm ((record { first = (EInteger 2 o); last = None }) ∷ []) (stmt_then (SCall (record { task = (record { name = (w 47); index = None }); entry = (w 48); args = (Some (record { first = ((EInteger 0 o) ∷ (EInteger 3 o) ∷ (EInteger 0 o) ∷ (EInteger 0 o) ∷ (EInteger 0 o) ∷ (n 45) ∷ []); second = None })) }) o) (stmt_then (SBlock (body (stmt_then (SConditional (record { task = (record { name = (w 35); index = None }); entry = (w 29); args = (Some (record { first = ((EInteger 3 o) ∷ []); second = None })) }) (stmt_then (SAssign (record { name = (w 46); index = None }) (EInteger 1 o) o) no_stmt) (stmt_then (SAssign (record { name = (w 46); index = None }) (EInteger 2 o) o) no_stmt) o) no_stmt) (handler_then (handler [] (stmt_then (SCall (record { task = (record { name = (w 47); index = None }); entry = (w 48); args = (Some (record { first = ((EInteger 7 o) ∷ (EInteger 3 o) ∷ (EInteger 4 o) ∷ (EInteger 0 o) ∷ (EInteger 2 o) ∷ (n 45) ∷ []); second = None })) }) o) (stmt_then (SIf (arm_then (arm (n 45) (stmt_then (SRaise (Some (w 9)) o) no_stmt)) no_arm) absent o) (stmt_then (SRaise None o) no_stmt))) o) no_handler)) o) (stmt_then (SIf (arm_then (arm (EBinary binary.Equal (n 46) (EInteger 1 o) o) (stmt_then (SCall (record { task = (record { name = (w 47); index = None }); entry = (w 48); args = (Some (record { first = ((EInteger 10 o) ∷ (EInteger 3 o) ∷ (EInteger 0 o) ∷ (EInteger 0 o) ∷ (EInteger 0 o) ∷ (n 45) ∷ []); second = None })) }) o) (stmt_then (SIf (arm_then (arm (n 45) (stmt_then (SRaise (Some (w 9)) o) no_stmt)) no_arm) absent o) (stmt_then (SAssign (record { name = (w 40); index = None }) (EInteger 1 o) o) no_stmt)))) no_arm) (present (stmt_then (SCall (record { task = (record { name = (w 47); index = None }); entry = (w 48); args = (Some (record { first = ((EInteger 5 o) ∷ (EInteger 3 o) ∷ (EInteger 4 o) ∷ (EInteger 0 o) ∷ (EInteger 2 o) ∷ (n 45) ∷ []); second = None })) }) o) (stmt_then (SIf (arm_then (arm (n 45) (stmt_then (SRaise (Some (w 9)) o) no_stmt)) no_arm) absent o) (stmt_then (SAssign (record { name = (w 40); index = None }) (EInteger 2 o) o) no_stmt)))) o) no_stmt)))) no_case_arm)) (present (stmt_then (SNull o) no_stmt)) o) (stmt_then (SIf (arm_then (arm (EBinary binary.Equal (n 40) (EInteger 1 o) o) (stmt_then (SPut ((PWords (codes "Y") o) ∷ []) o) no_stmt)) no_arm) (present (stmt_then (SPut ((PWords (codes "N") o) ∷ []) o) no_stmt)) o) (stmt_then (SAssign (record { name = (w 41); index = None }) (n 33) o) (stmt_then (SCase (n 41) (case_arm_then (case_arm ((record { first = (EInteger 1 o); last = None }) ∷ []) (stmt_then (SCall (record { task = (record { name = (w 47); index = None }); entry = (w 48); args = (Some (record { first = ((EInteger 9 o) ∷ (EInteger 3 o) ∷ (EInteger 1 o) ∷ (EInteger 0 o) ∷ (EInteger 0 o) ∷ (n 45) ∷ []); second = None })) }) o) no_stmt)) (case_arm_then (case_arm ((record { first = (EInteger 2 o); last = None }) ∷ []) (stmt_then (SCall (record { task = (record { name = (w 47); index = None }); entry = (w 48); args = (Some (record { first = ((EInteger 9 o) ∷ (EInteger 3 o) ∷ (EInteger 2 o) ∷ (EInteger 0 o) ∷ (EInteger 0 o) ∷ (n 45) ∷ []); second = None })) }) o) no_stmt)) no_case_arm)) (present (stmt_then (SNull o) no_stmt)) o) (stmt_then (SCall (record { task = (record { name = (w 47); index = None }); entry = (w 48); args = (Some (record { first = ((EInteger 9 o) ∷ (EInteger 3 o) ∷ (EInteger 2 o) ∷ (EInteger 0 o) ∷ (EInteger 0 o) ∷ (n 45) ∷ []); second = None })) }) o) (stmt_then (SCall (record { task = (record { name = (w 47); index = None }); entry = (w 48); args = (Some (record { first = ((EInteger 9 o) ∷ (EInteger 3 o) ∷ (EInteger 3 o) ∷ (EInteger 0 o) ∷ (EInteger 0 o) ∷ (n 45) ∷ []); second = None })) }) o) no_stmt))))))))))))))))) (handler_then (handler [] (stmt_then (SNull o) no_stmt) o) no_handler)) o) (stmt_then (SCall (record { task = (record { name = (w 47); index = None }); entry = (w 48); args = (Some (record { first = ((EInteger 8 o) ∷ (EInteger 3 o) ∷ (EInteger 0 o) ∷ (EInteger 0 o) ∷ (EInteger 0 o) ∷ (n 45) ∷ []); second = None })) }) o) no_stmt)) no_handler) o) (decl_then (DTaskBody (w 47) (decl_then (DObject ((w 55) ∷ []) false (OPlain (record { mark = (w 43); bounds = None })) (Some (IOthers (n 4) o)) o) (decl_then (DObject ((w 56) ∷ (w 57) ∷ []) false (OArray (RGiven (record { first = (EInteger 0 o); last = (EInteger 3 o) })) (record { mark = (w 0); bounds = None })) (Some (IOthers (EInteger 0 o) o)) o) no_decl)) (body (stmt_then (SPutLine ((PWords (codes "ded-seq 1 FORMS 3 4") o) ∷ []) o) (stmt_then (SLoop None None (stmt_then (SWait (alt_then (alternative None (AAccept (accepting (record { entry = (w 48); index = None; formals = ((record { names = ((w 49) ∷ (w 50) ∷ (w 51) ∷ (w 52) ∷ (w 53) ∷ []); mode = mode.Take; mark = (w 0) }) ∷ (record { names = ((w 54) ∷ []); mode = mode.Give; mark = (w 3) }) ∷ []); span = o }) (present (stmt_then (SAssign (record { name = (w 54); index = None }) (n 4) o) (stmt_then (SCase (n 49) (case_arm_then (case_arm ((record { first = (EInteger 0 o); last = None }) ∷ []) (stmt_then (SAssign (record { name = (w 56); index = (Some (n 50)) }) (EInteger 0 o) o) no_stmt)) (case_arm_then (case_arm ((record { first = (EInteger 1 o); last = None }) ∷ []) (stmt_then (SIf (arm_then (arm (EIndex (w 55) (n 50) o) (stmt_then (SAssign (record { name = (w 54); index = None }) (n 5) o) no_stmt)) no_arm) (present (stmt_then (SAssign (record { name = (w 56); index = (Some (n 50)) }) (EInteger 1 o) o) (stmt_then (SAssign (record { name = (w 57); index = (Some (n 50)) }) (n 53) o) (stmt_then (SPut ((PWords (codes "R") o) ∷ []) o) (stmt_then (SPut ((PWords (codes " ") o) ∷ []) o) (stmt_then (SPut ((PValue (n 50)) ∷ []) o) (stmt_then (SPut ((PWords (codes " ") o) ∷ []) o) (stmt_then (SPut ((PValue (n 51)) ∷ []) o) (stmt_then (SPut ((PWords (codes " ") o) ∷ []) o) (stmt_then (SPut ((PValue (n 52)) ∷ []) o) (stmt_then (SNewLine o) no_stmt))))))))))) o) no_stmt)) (case_arm_then (case_arm ((record { first = (EInteger 2 o); last = None }) ∷ []) (stmt_then (SIf (arm_then (arm (EBinary binary.And (EBinary binary.Equal (EIndex (w 56) (n 51) o) (EInteger 1 o) o) (EBinary binary.Equal (EIndex (w 57) (n 51) o) (n 50) o) o) (stmt_then (SPut ((PWords (codes "E") o) ∷ []) o) (stmt_then (SPut ((PWords (codes " ") o) ∷ []) o) (stmt_then (SPut ((PValue (n 50)) ∷ []) o) (stmt_then (SNewLine o) (stmt_then (SAssign (record { name = (w 56); index = (Some (n 51)) }) (EInteger 2 o) o) no_stmt)))))) no_arm) absent o) no_stmt)) (case_arm_then (case_arm ((record { first = (EInteger 3 o); last = None }) ∷ []) (stmt_then (SPut ((PWords (codes "S") o) ∷ []) o) (stmt_then (SPut ((PWords (codes " ") o) ∷ []) o) (stmt_then (SPut ((PValue (n 50)) ∷ []) o) (stmt_then (SNewLine o) no_stmt))))) (case_arm_then (case_arm ((record { first = (EInteger 4 o); last = None }) ∷ []) (stmt_then (SPut ((PWords (codes "D") o) ∷ []) o) (stmt_then (SPut ((PWords (codes " ") o) ∷ []) o) (stmt_then (SPut ((PValue (n 50)) ∷ []) o) (stmt_then (SPut ((PWords (codes " ") o) ∷ []) o) (stmt_then (SPut ((PValue (n 51)) ∷ []) o) (stmt_then (SNewLine o) no_stmt))))))) (case_arm_then (case_arm ((record { first = (EInteger 5 o); last = None }) ∷ []) (stmt_then (SIf (arm_then (arm (EIndex (w 55) (n 53) o) (stmt_then (SPut ((PWords (codes "F") o) ∷ []) o) (stmt_then (SPut ((PWords (codes " ") o) ∷ []) o) (stmt_then (SPut ((PValue (n 50)) ∷ []) o) (stmt_then (SPut ((PWords (codes " ") o) ∷ []) o) (stmt_then (SPut ((PValue (n 51)) ∷ []) o) (stmt_then (SPut ((PWords (codes " ") o) ∷ []) o) (stmt_then (SPut ((PValue (n 52)) ∷ []) o) (stmt_then (SNewLine o) (stmt_then (SAssign (record { name = (w 54); index = None }) (n 5) o) no_stmt)))))))))) no_arm) (present (stmt_then (SPut ((PWords (codes "C") o) ∷ []) o) (stmt_then (SPut ((PWords (codes " ") o) ∷ []) o) (stmt_then (SPut ((PValue (n 50)) ∷ []) o) (stmt_then (SPut ((PWords (codes " ") o) ∷ []) o) (stmt_then (SPut ((PValue (n 51)) ∷ []) o) (stmt_then (SPut ((PWords (codes " ") o) ∷ []) o) (stmt_then (SPut ((PValue (n 52)) ∷ []) o) (stmt_then (SNewLine o) no_stmt))))))))) o) no_stmt)) (case_arm_then (case_arm ((record { first = (EInteger 6 o); last = None }) ∷ []) (stmt_then (SIf (arm_then (arm (EIndex (w 55) (n 53) o) (stmt_then (SPut ((PWords (codes "F") o) ∷ []) o) (stmt_then (SPut ((PWords (codes " ") o) ∷ []) o) (stmt_then (SPut ((PValue (n 50)) ∷ []) o) (stmt_then (SPut ((PWords (codes " ") o) ∷ []) o) (stmt_then (SPut ((PValue (n 51)) ∷ []) o) (stmt_then (SPut ((PWords (codes " ") o) ∷ []) o) (stmt_then (SPut ((PValue (n 52)) ∷ []) o) (stmt_then (SNewLine o) (stmt_then (SAssign (record { name = (w 54); index = None }) (n 5) o) no_stmt)))))))))) no_arm) (present (stmt_then (SPut ((PWords (codes "T") o) ∷ []) o) (stmt_then (SPut ((PWords (codes " ") o) ∷ []) o) (stmt_then (SPut ((PValue (n 50)) ∷ []) o) (stmt_then (SPut ((PWords (codes " ") o) ∷ []) o) (stmt_then (SPut ((PValue (n 51)) ∷ []) o) (stmt_then (SPut ((PWords (codes " ") o) ∷ []) o) (stmt_then (SPut ((PValue (n 52)) ∷ []) o) (stmt_then (SNewLine o) no_stmt))))))))) o) no_stmt)) (case_arm_then (case_arm ((record { first = (EInteger 7 o); last = None }) ∷ (record { first = (EInteger 10 o); last = None }) ∷ []) (stmt_then (SIf (arm_then (arm (EBinary binary.Equal (EIndex (w 56) (n 50) o) (EInteger 1 o) o) (stmt_then (SPut ((PWords (codes "E") o) ∷ []) o) (stmt_then (SPut ((PWords (codes " ") o) ∷ []) o) (stmt_then (SPut ((PValue (EIndex (w 57) (n 50) o)) ∷ []) o) (stmt_then (SNewLine o) (stmt_then (SAssign (record { name = (w 56); index = (Some (n 50)) }) (EInteger 2 o) o) no_stmt)))))) (arm_then (arm (EBinary binary.Equal (EIndex (w 56) (n 50) o) (EInteger 3 o) o) (stmt_then (SAssign (record { name = (w 54); index = None }) (n 5) o) no_stmt)) (arm_then (arm (EBinary binary.And (EBinary binary.Equal (EIndex (w 56) (n 50) o) (EInteger 0 o) o) (EBinary binary.Equal (n 49) (EInteger 7 o) o) o) (stmt_then (SPut ((PWords (codes "F") o) ∷ []) o) (stmt_then (SPut ((PWords (codes " ") o) ∷ []) o) (stmt_then (SPut ((PValue (n 50)) ∷ []) o) (stmt_then (SPut ((PWords (codes " ") o) ∷ []) o) (stmt_then (SPut ((PValue (n 51)) ∷ []) o) (stmt_then (SPut ((PWords (codes " ") o) ∷ []) o) (stmt_then (SPut ((PValue (n 52)) ∷ []) o) (stmt_then (SNewLine o) (stmt_then (SAssign (record { name = (w 54); index = None }) (n 5) o) no_stmt)))))))))) no_arm))) absent o) no_stmt)) (case_arm_then (case_arm ((record { first = (EInteger 8 o); last = None }) ∷ []) (stmt_then (SAssign (record { name = (w 55); index = (Some (n 50)) }) (n 5) o) (stmt_then (SPut ((PWords (codes "X") o) ∷ []) o) (stmt_then (SPut ((PWords (codes " ") o) ∷ []) o) (stmt_then (SPut ((PValue (n 50)) ∷ []) o) (stmt_then (SNewLine o) no_stmt)))))) (case_arm_then (case_arm ((record { first = (EInteger 9 o); last = None }) ∷ []) (stmt_then (SPut ((PWords (codes "B") o) ∷ []) o) (stmt_then (SPut ((PWords (codes " ") o) ∷ []) o) (stmt_then (SPut ((PValue (n 50)) ∷ []) o) (stmt_then (SPut ((PWords (codes " ") o) ∷ []) o) (stmt_then (SPut ((PValue (n 51)) ∷ []) o) (stmt_then (SNewLine o) (stmt_then (SAssign (record { name = (w 55); index = (Some (n 51)) }) (n 5) o) (stmt_then (SLoop None (Some (LFor (w 58) false (RGiven (record { first = (EInteger 0 o); last = (EInteger 3 o) })))) (stmt_then (SIf (arm_then (arm (EBinary binary.And (EBinary binary.Equal (EIndex (w 56) (n 58) o) (EInteger 1 o) o) (EBinary binary.Equal (EIndex (w 57) (n 58) o) (n 51) o) o) (stmt_then (SAssign (record { name = (w 56); index = (Some (n 58)) }) (EInteger 3 o) o) no_stmt)) no_arm) absent o) no_stmt) o) (stmt_then (SCase (n 51) (case_arm_then (case_arm ((record { first = (EInteger 1 o); last = None }) ∷ []) (stmt_then (SAbort ((record { name = (w 34); index = None }) ∷ []) o) no_stmt)) (case_arm_then (case_arm ((record { first = (EInteger 2 o); last = None }) ∷ []) (stmt_then (SAbort ((record { name = (w 35); index = None }) ∷ []) o) no_stmt)) (case_arm_then (case_arm ((record { first = (EInteger 3 o); last = None }) ∷ []) (stmt_then (SAbort ((record { name = (w 31); index = None }) ∷ []) o) no_stmt)) no_case_arm))) (present (stmt_then (SNull o) no_stmt)) o) no_stmt)))))))))) no_case_arm)))))))))) (present (stmt_then (SNull o) no_stmt)) o) no_stmt)))) no_stmt) o) (alt_then (alternative None ATerminate o) no_alt)) absent o) no_stmt) o) no_stmt)) no_handler) o) no_decl)))))))))))); body = (body (stmt_then (SCall (record { task = (record { name = (w 47); index = None }); entry = (w 48); args = (Some (record { first = ((EInteger 0 o) ∷ (EInteger 0 o) ∷ (EInteger 0 o) ∷ (EInteger 0 o) ∷ (EInteger 0 o) ∷ (n 45) ∷ []); second = None })) }) o) (stmt_then (SBlock (body (stmt_then (SCall (record { task = (record { name = (w 35); index = None }); entry = (w 29); args = (Some (record { first = ((EInteger 0 o) ∷ []); second = None })) }) o) no_stmt) (handler_then (handler [] (stmt_then (SCall (record { task = (record { name = (w 47); index = None }); entry = (w 48); args = (Some (record { first = ((EInteger 7 o) ∷ (EInteger 0 o) ∷ (EInteger 4 o) ∷ (EInteger 0 o) ∷ (EInteger 2 o) ∷ (n 45) ∷ []); second = None })) }) o) (stmt_then (SIf (arm_then (arm (n 45) (stmt_then (SRaise (Some (w 9)) o) no_stmt)) no_arm) absent o) (stmt_then (SRaise None o) no_stmt))) o) no_handler)) o) (stmt_then (SCall (record { task = (record { name = (w 47); index = None }); entry = (w 48); args = (Some (record { first = ((EInteger 10 o) ∷ (EInteger 0 o) ∷ (EInteger 0 o) ∷ (EInteger 0 o) ∷ (EInteger 0 o) ∷ (n 45) ∷ []); second = None })) }) o) (stmt_then (SIf (arm_then (arm (n 45) (stmt_then (SRaise (Some (w 9)) o) no_stmt)) no_arm) absent o) no_stmt)))) no_handler) }

@@ -1,0 +1,203 @@
+-- A program in which a task aborts itself, and its collecting text as it was written from the rules.
+use Rattle.std.specs.Prelude.{[], ◌∷◌, ◌++◌, codes, true, false, Some, None}
+use Rattle.ada_tree.specs.NameList.{predefined}
+use Rattle.ada_tree.specs.declared.expressions.BinaryOp.TheVariants as binary
+use Rattle.ada_tree.specs.declared.statements.ParMode.TheVariants as mode
+use Rattle.ada_tree.specs.PlainExpr.{EInteger, EIndex, EBinary, RGiven}
+use Rattle.ada_tree.specs.PlainStmt.{LFor, PWords, PValue, SNull, SAssign, SAbort, SCall, SWait, SPut, SPutLine, SNewLine, SIf, SCase, SBlock, SLoop, no_stmt, stmt_then, absent, present, accepting, alternative, AAccept, ATerminate, no_alt, alt_then, arm, no_arm, arm_then, case_arm, no_case_arm, case_arm_then, body, handler, no_handler, handler_then}
+use Rattle.ada_tree.specs.PlainDecl.{OPlain, OArray, IOne, IOthers, DObject, DArray, DIntIo, DTask, DTaskBody, no_decl, decl_then}
+use Rattle.ada_tree.specs.PlainProgram.{PProgram}
+use Rattle.collect_model.specs.aborts.examples.Trees.{o, w, n}
+
+-- A task that aborts itself.
+--
+-- procedure P10 is
+--    task T;
+--    task body T is
+--    begin
+--       PUT_LINE("BEFORE");
+--       abort T;
+--       PUT_LINE("AFTER");
+--    end T;
+-- begin
+--    null;
+-- end P10;
+abbrev pub itself : PProgram
+itself = record { names = (predefined ++ (codes "P10" ∷ codes "T" ∷ [])); text_io = false; name = (w 25); decls = (decl_then (DTask (record { name = (w 26); of_kind = false; entries = []; priorities = [] }) o) (decl_then (DTaskBody (w 26) no_decl (body (stmt_then (SPutLine ((PWords (codes "BEFORE") o) ∷ []) o) (stmt_then (SAbort ((record { name = (w 26); index = None }) ∷ []) o) (stmt_then (SPutLine ((PWords (codes "AFTER") o) ∷ []) o) no_stmt))) no_handler) o) no_decl)); body = (body (stmt_then (SNull o) no_stmt) no_handler) }
+
+-- Its text:
+--
+-- with TEXT_IO;
+-- use TEXT_IO;
+-- procedure P10 is
+--    package DED_INT_IO is new INTEGER_IO(INTEGER);
+--    use DED_INT_IO;
+--    type DED_FLAGS is array (0 .. 1) of BOOLEAN;
+--    DED_G : BOOLEAN := FALSE;
+--    DED_W : INTEGER := 0;
+--    task T;
+--    task DED_RECORD is
+--       entry NOTE(DED_NK, DED_NS, DED_NA, DED_NI, DED_NO : in INTEGER; DED_NG : out BOOLEAN);
+--    end DED_RECORD;
+--    task body T is
+--       DED_G : BOOLEAN := FALSE;
+--       DED_W : INTEGER := 0;
+--    begin
+--       begin
+--          PUT_LINE("BEFORE");
+--          DED_RECORD.NOTE(9, 1, 1, 0, 0, DED_G);
+--          PUT_LINE("AFTER");
+--       exception
+--          when others =>
+--             null;
+--       end;
+--       DED_RECORD.NOTE(8, 1, 0, 0, 0, DED_G);
+--    end T;
+--    task body DED_RECORD is
+--       DED_GONE : DED_FLAGS := (others => FALSE);
+--       DED_MET, DED_ACC : array (0 .. 1) of INTEGER := (others => 0);
+--    begin
+--       PUT_LINE("ded-seq 1 P10 1 0");
+--       loop
+--          select
+--             accept NOTE(DED_NK, DED_NS, DED_NA, DED_NI, DED_NO : in INTEGER; DED_NG : out BOOLEAN) do
+--                DED_NG := FALSE;
+--                case DED_NK is
+--                   when 0 =>
+--                      DED_MET(DED_NS) := 0;
+--                   when 1 =>
+--                      if DED_GONE(DED_NS) then
+--                         DED_NG := TRUE;
+--                      else
+--                         DED_MET(DED_NS) := 1;
+--                         DED_ACC(DED_NS) := DED_NO;
+--                         PUT("R");
+--                         PUT(" ");
+--                         PUT(DED_NS);
+--                         PUT(" ");
+--                         PUT(DED_NA);
+--                         PUT(" ");
+--                         PUT(DED_NI);
+--                         NEW_LINE;
+--                      end if;
+--                   when 2 =>
+--                      if DED_MET(DED_NA) = 1 and DED_ACC(DED_NA) = DED_NS then
+--                         PUT("E");
+--                         PUT(" ");
+--                         PUT(DED_NS);
+--                         NEW_LINE;
+--                         DED_MET(DED_NA) := 2;
+--                      end if;
+--                   when 3 =>
+--                      PUT("S");
+--                      PUT(" ");
+--                      PUT(DED_NS);
+--                      NEW_LINE;
+--                   when 4 =>
+--                      PUT("D");
+--                      PUT(" ");
+--                      PUT(DED_NS);
+--                      PUT(" ");
+--                      PUT(DED_NA);
+--                      NEW_LINE;
+--                   when 5 =>
+--                      if DED_GONE(DED_NO) then
+--                         PUT("F");
+--                         PUT(" ");
+--                         PUT(DED_NS);
+--                         PUT(" ");
+--                         PUT(DED_NA);
+--                         PUT(" ");
+--                         PUT(DED_NI);
+--                         NEW_LINE;
+--                         DED_NG := TRUE;
+--                      else
+--                         PUT("C");
+--                         PUT(" ");
+--                         PUT(DED_NS);
+--                         PUT(" ");
+--                         PUT(DED_NA);
+--                         PUT(" ");
+--                         PUT(DED_NI);
+--                         NEW_LINE;
+--                      end if;
+--                   when 6 =>
+--                      if DED_GONE(DED_NO) then
+--                         PUT("F");
+--                         PUT(" ");
+--                         PUT(DED_NS);
+--                         PUT(" ");
+--                         PUT(DED_NA);
+--                         PUT(" ");
+--                         PUT(DED_NI);
+--                         NEW_LINE;
+--                         DED_NG := TRUE;
+--                      else
+--                         PUT("T");
+--                         PUT(" ");
+--                         PUT(DED_NS);
+--                         PUT(" ");
+--                         PUT(DED_NA);
+--                         PUT(" ");
+--                         PUT(DED_NI);
+--                         NEW_LINE;
+--                      end if;
+--                   when 7 | 10 =>
+--                      if DED_MET(DED_NS) = 1 then
+--                         PUT("E");
+--                         PUT(" ");
+--                         PUT(DED_ACC(DED_NS));
+--                         NEW_LINE;
+--                         DED_MET(DED_NS) := 2;
+--                      elsif DED_MET(DED_NS) = 3 then
+--                         DED_NG := TRUE;
+--                      elsif DED_MET(DED_NS) = 0 and DED_NK = 7 then
+--                         PUT("F");
+--                         PUT(" ");
+--                         PUT(DED_NS);
+--                         PUT(" ");
+--                         PUT(DED_NA);
+--                         PUT(" ");
+--                         PUT(DED_NI);
+--                         NEW_LINE;
+--                         DED_NG := TRUE;
+--                      end if;
+--                   when 8 =>
+--                      DED_GONE(DED_NS) := TRUE;
+--                      PUT("X");
+--                      PUT(" ");
+--                      PUT(DED_NS);
+--                      NEW_LINE;
+--                   when 9 =>
+--                      PUT("B");
+--                      PUT(" ");
+--                      PUT(DED_NS);
+--                      PUT(" ");
+--                      PUT(DED_NA);
+--                      NEW_LINE;
+--                      DED_GONE(DED_NA) := TRUE;
+--                      for DED_U in 0 .. 1 loop
+--                         if DED_MET(DED_U) = 1 and DED_ACC(DED_U) = DED_NA then
+--                            DED_MET(DED_U) := 3;
+--                         end if;
+--                      end loop;
+--                      case DED_NA is
+--                         when 1 =>
+--                            abort T;
+--                         when others =>
+--                            null;
+--                      end case;
+--                   when others =>
+--                      null;
+--                end case;
+--             end NOTE;
+--          or
+--             terminate;
+--          end select;
+--       end loop;
+--    end DED_RECORD;
+-- begin
+--    null;
+-- end P10;
+abbrev pub itself_text : PProgram
+itself_text = record { names = (predefined ++ (codes "P10" ∷ codes "T" ∷ codes "DED_INT_IO" ∷ codes "DED_FLAGS" ∷ codes "DED_C" ∷ codes "DED_G" ∷ codes "DED_W" ∷ codes "DED_RECORD" ∷ codes "NOTE" ∷ codes "DED_NK" ∷ codes "DED_NS" ∷ codes "DED_NA" ∷ codes "DED_NI" ∷ codes "DED_NO" ∷ codes "DED_NG" ∷ codes "DED_GONE" ∷ codes "DED_MET" ∷ codes "DED_ACC" ∷ codes "DED_U" ∷ [])); text_io = true; name = (w 25); decls = (decl_then (DIntIo (w 27) o) (decl_then (DArray (w 28) (RGiven (record { first = (EInteger 0 o); last = (EInteger 1 o) })) (record { mark = (w 3); bounds = None }) o) (decl_then (DObject ((w 30) ∷ []) false (OPlain (record { mark = (w 3); bounds = None })) (Some (IOne (n 4))) o) (decl_then (DObject ((w 31) ∷ []) false (OPlain (record { mark = (w 0); bounds = None })) (Some (IOne (EInteger 0 o))) o) (decl_then (DTask (record { name = (w 26); of_kind = false; entries = []; priorities = [] }) o) (decl_then (DTask (record { name = (w 32); of_kind = false; entries = ((record { name = (w 33); family = None; formals = ((record { names = ((w 34) ∷ (w 35) ∷ (w 36) ∷ (w 37) ∷ (w 38) ∷ []); mode = mode.Take; mark = (w 0) }) ∷ (record { names = ((w 39) ∷ []); mode = mode.Give; mark = (w 3) }) ∷ []); span = o }) ∷ []); priorities = [] }) o) (decl_then (DTaskBody (w 26) (decl_then (DObject ((w 30) ∷ []) false (OPlain (record { mark = (w 3); bounds = None })) (Some (IOne (n 4))) o) (decl_then (DObject ((w 31) ∷ []) false (OPlain (record { mark = (w 0); bounds = None })) (Some (IOne (EInteger 0 o))) o) no_decl)) (body (stmt_then (SBlock (body (stmt_then (SPutLine ((PWords (codes "BEFORE") o) ∷ []) o) (stmt_then (SCall (record { task = (record { name = (w 32); index = None }); entry = (w 33); args = (Some (record { first = ((EInteger 9 o) ∷ (EInteger 1 o) ∷ (EInteger 1 o) ∷ (EInteger 0 o) ∷ (EInteger 0 o) ∷ (n 30) ∷ []); second = None })) }) o) (stmt_then (SPutLine ((PWords (codes "AFTER") o) ∷ []) o) no_stmt))) (handler_then (handler [] (stmt_then (SNull o) no_stmt) o) no_handler)) o) (stmt_then (SCall (record { task = (record { name = (w 32); index = None }); entry = (w 33); args = (Some (record { first = ((EInteger 8 o) ∷ (EInteger 1 o) ∷ (EInteger 0 o) ∷ (EInteger 0 o) ∷ (EInteger 0 o) ∷ (n 30) ∷ []); second = None })) }) o) no_stmt)) no_handler) o) (decl_then (DTaskBody (w 32) (decl_then (DObject ((w 40) ∷ []) false (OPlain (record { mark = (w 28); bounds = None })) (Some (IOthers (n 4) o)) o) (decl_then (DObject ((w 41) ∷ (w 42) ∷ []) false (OArray (RGiven (record { first = (EInteger 0 o); last = (EInteger 1 o) })) (record { mark = (w 0); bounds = None })) (Some (IOthers (EInteger 0 o) o)) o) no_decl)) (body (stmt_then (SPutLine ((PWords (codes "ded-seq 1 P10 1 0") o) ∷ []) o) (stmt_then (SLoop None None (stmt_then (SWait (alt_then (alternative None (AAccept (accepting (record { entry = (w 33); index = None; formals = ((record { names = ((w 34) ∷ (w 35) ∷ (w 36) ∷ (w 37) ∷ (w 38) ∷ []); mode = mode.Take; mark = (w 0) }) ∷ (record { names = ((w 39) ∷ []); mode = mode.Give; mark = (w 3) }) ∷ []); span = o }) (present (stmt_then (SAssign (record { name = (w 39); index = None }) (n 4) o) (stmt_then (SCase (n 34) (case_arm_then (case_arm ((record { first = (EInteger 0 o); last = None }) ∷ []) (stmt_then (SAssign (record { name = (w 41); index = (Some (n 35)) }) (EInteger 0 o) o) no_stmt)) (case_arm_then (case_arm ((record { first = (EInteger 1 o); last = None }) ∷ []) (stmt_then (SIf (arm_then (arm (EIndex (w 40) (n 35) o) (stmt_then (SAssign (record { name = (w 39); index = None }) (n 5) o) no_stmt)) no_arm) (present (stmt_then (SAssign (record { name = (w 41); index = (Some (n 35)) }) (EInteger 1 o) o) (stmt_then (SAssign (record { name = (w 42); index = (Some (n 35)) }) (n 38) o) (stmt_then (SPut ((PWords (codes "R") o) ∷ []) o) (stmt_then (SPut ((PWords (codes " ") o) ∷ []) o) (stmt_then (SPut ((PValue (n 35)) ∷ []) o) (stmt_then (SPut ((PWords (codes " ") o) ∷ []) o) (stmt_then (SPut ((PValue (n 36)) ∷ []) o) (stmt_then (SPut ((PWords (codes " ") o) ∷ []) o) (stmt_then (SPut ((PValue (n 37)) ∷ []) o) (stmt_then (SNewLine o) no_stmt))))))))))) o) no_stmt)) (case_arm_then (case_arm ((record { first = (EInteger 2 o); last = None }) ∷ []) (stmt_then (SIf (arm_then (arm (EBinary binary.And (EBinary binary.Equal (EIndex (w 41) (n 36) o) (EInteger 1 o) o) (EBinary binary.Equal (EIndex (w 42) (n 36) o) (n 35) o) o) (stmt_then (SPut ((PWords (codes "E") o) ∷ []) o) (stmt_then (SPut ((PWords (codes " ") o) ∷ []) o) (stmt_then (SPut ((PValue (n 35)) ∷ []) o) (stmt_then (SNewLine o) (stmt_then (SAssign (record { name = (w 41); index = (Some (n 36)) }) (EInteger 2 o) o) no_stmt)))))) no_arm) absent o) no_stmt)) (case_arm_then (case_arm ((record { first = (EInteger 3 o); last = None }) ∷ []) (stmt_then (SPut ((PWords (codes "S") o) ∷ []) o) (stmt_then (SPut ((PWords (codes " ") o) ∷ []) o) (stmt_then (SPut ((PValue (n 35)) ∷ []) o) (stmt_then (SNewLine o) no_stmt))))) (case_arm_then (case_arm ((record { first = (EInteger 4 o); last = None }) ∷ []) (stmt_then (SPut ((PWords (codes "D") o) ∷ []) o) (stmt_then (SPut ((PWords (codes " ") o) ∷ []) o) (stmt_then (SPut ((PValue (n 35)) ∷ []) o) (stmt_then (SPut ((PWords (codes " ") o) ∷ []) o) (stmt_then (SPut ((PValue (n 36)) ∷ []) o) (stmt_then (SNewLine o) no_stmt))))))) (case_arm_then (case_arm ((record { first = (EInteger 5 o); last = None }) ∷ []) (stmt_then (SIf (arm_then (arm (EIndex (w 40) (n 38) o) (stmt_then (SPut ((PWords (codes "F") o) ∷ []) o) (stmt_then (SPut ((PWords (codes " ") o) ∷ []) o) (stmt_then (SPut ((PValue (n 35)) ∷ []) o) (stmt_then (SPut ((PWords (codes " ") o) ∷ []) o) (stmt_then (SPut ((PValue (n 36)) ∷ []) o) (stmt_then (SPut ((PWords (codes " ") o) ∷ []) o) (stmt_then (SPut ((PValue (n 37)) ∷ []) o) (stmt_then (SNewLine o) (stmt_then (SAssign (record { name = (w 39); index = None }) (n 5) o) no_stmt)))))))))) no_arm) (present (stmt_then (SPut ((PWords (codes "C") o) ∷ []) o) (stmt_then (SPut ((PWords (codes " ") o) ∷ []) o) (stmt_then (SPut ((PValue (n 35)) ∷ []) o) (stmt_then (SPut ((PWords (codes " ") o) ∷ []) o) (stmt_then (SPut ((PValue (n 36)) ∷ []) o) (stmt_then (SPut ((PWords (codes " ") o) ∷ []) o) (stmt_then (SPut ((PValue (n 37)) ∷ []) o) (stmt_then (SNewLine o) no_stmt))))))))) o) no_stmt)) (case_arm_then (case_arm ((record { first = (EInteger 6 o); last = None }) ∷ []) (stmt_then (SIf (arm_then (arm (EIndex (w 40) (n 38) o) (stmt_then (SPut ((PWords (codes "F") o) ∷ []) o) (stmt_then (SPut ((PWords (codes " ") o) ∷ []) o) (stmt_then (SPut ((PValue (n 35)) ∷ []) o) (stmt_then (SPut ((PWords (codes " ") o) ∷ []) o) (stmt_then (SPut ((PValue (n 36)) ∷ []) o) (stmt_then (SPut ((PWords (codes " ") o) ∷ []) o) (stmt_then (SPut ((PValue (n 37)) ∷ []) o) (stmt_then (SNewLine o) (stmt_then (SAssign (record { name = (w 39); index = None }) (n 5) o) no_stmt)))))))))) no_arm) (present (stmt_then (SPut ((PWords (codes "T") o) ∷ []) o) (stmt_then (SPut ((PWords (codes " ") o) ∷ []) o) (stmt_then (SPut ((PValue (n 35)) ∷ []) o) (stmt_then (SPut ((PWords (codes " ") o) ∷ []) o) (stmt_then (SPut ((PValue (n 36)) ∷ []) o) (stmt_then (SPut ((PWords (codes " ") o) ∷ []) o) (stmt_then (SPut ((PValue (n 37)) ∷ []) o) (stmt_then (SNewLine o) no_stmt))))))))) o) no_stmt)) (case_arm_then (case_arm ((record { first = (EInteger 7 o); last = None }) ∷ (record { first = (EInteger 10 o); last = None }) ∷ []) (stmt_then (SIf (arm_then (arm (EBinary binary.Equal (EIndex (w 41) (n 35) o) (EInteger 1 o) o) (stmt_then (SPut ((PWords (codes "E") o) ∷ []) o) (stmt_then (SPut ((PWords (codes " ") o) ∷ []) o) (stmt_then (SPut ((PValue (EIndex (w 42) (n 35) o)) ∷ []) o) (stmt_then (SNewLine o) (stmt_then (SAssign (record { name = (w 41); index = (Some (n 35)) }) (EInteger 2 o) o) no_stmt)))))) (arm_then (arm (EBinary binary.Equal (EIndex (w 41) (n 35) o) (EInteger 3 o) o) (stmt_then (SAssign (record { name = (w 39); index = None }) (n 5) o) no_stmt)) (arm_then (arm (EBinary binary.And (EBinary binary.Equal (EIndex (w 41) (n 35) o) (EInteger 0 o) o) (EBinary binary.Equal (n 34) (EInteger 7 o) o) o) (stmt_then (SPut ((PWords (codes "F") o) ∷ []) o) (stmt_then (SPut ((PWords (codes " ") o) ∷ []) o) (stmt_then (SPut ((PValue (n 35)) ∷ []) o) (stmt_then (SPut ((PWords (codes " ") o) ∷ []) o) (stmt_then (SPut ((PValue (n 36)) ∷ []) o) (stmt_then (SPut ((PWords (codes " ") o) ∷ []) o) (stmt_then (SPut ((PValue (n 37)) ∷ []) o) (stmt_then (SNewLine o) (stmt_then (SAssign (record { name = (w 39); index = None }) (n 5) o) no_stmt)))))))))) no_arm))) absent o) no_stmt)) (case_arm_then (case_arm ((record { first = (EInteger 8 o); last = None }) ∷ []) (stmt_then (SAssign (record { name = (w 40); index = (Some (n 35)) }) (n 5) o) (stmt_then (SPut ((PWords (codes "X") o) ∷ []) o) (stmt_then (SPut ((PWords (codes " ") o) ∷ []) o) (stmt_then (SPut ((PValue (n 35)) ∷ []) o) (stmt_then (SNewLine o) no_stmt)))))) (case_arm_then (case_arm ((record { first = (EInteger 9 o); last = None }) ∷ []) (stmt_then (SPut ((PWords (codes "B") o) ∷ []) o) (stmt_then (SPut ((PWords (codes " ") o) ∷ []) o) (stmt_then (SPut ((PValue (n 35)) ∷ []) o) (stmt_then (SPut ((PWords (codes " ") o) ∷ []) o) (stmt_then (SPut ((PValue (n 36)) ∷ []) o) (stmt_then (SNewLine o) (stmt_then (SAssign (record { name = (w 40); index = (Some (n 36)) }) (n 5) o) (stmt_then (SLoop None (Some (LFor (w 43) false (RGiven (record { first = (EInteger 0 o); last = (EInteger 1 o) })))) (stmt_then (SIf (arm_then (arm (EBinary binary.And (EBinary binary.Equal (EIndex (w 41) (n 43) o) (EInteger 1 o) o) (EBinary binary.Equal (EIndex (w 42) (n 43) o) (n 36) o) o) (stmt_then (SAssign (record { name = (w 41); index = (Some (n 43)) }) (EInteger 3 o) o) no_stmt)) no_arm) absent o) no_stmt) o) (stmt_then (SCase (n 36) (case_arm_then (case_arm ((record { first = (EInteger 1 o); last = None }) ∷ []) (stmt_then (SAbort ((record { name = (w 26); index = None }) ∷ []) o) no_stmt)) no_case_arm) (present (stmt_then (SNull o) no_stmt)) o) no_stmt)))))))))) no_case_arm)))))))))) (present (stmt_then (SNull o) no_stmt)) o) no_stmt)))) no_stmt) o) (alt_then (alternative None ATerminate o) no_alt)) absent o) no_stmt) o) no_stmt)) no_handler) o) no_decl)))))))); body = (body (stmt_then (SNull o) no_stmt) no_handler) }

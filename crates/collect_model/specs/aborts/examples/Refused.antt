@@ -1,0 +1,209 @@
+-- A program in which a caller is aborted, and its collecting text as it was written from the rules.
+use Rattle.std.specs.Prelude.{[], ◌∷◌, ◌++◌, codes, true, false, Some, None}
+use Rattle.ada_tree.specs.NameList.{predefined}
+use Rattle.ada_tree.specs.declared.expressions.BinaryOp.TheVariants as binary
+use Rattle.ada_tree.specs.declared.expressions.UnaryOp.TheVariants as unary
+use Rattle.ada_tree.specs.declared.statements.ParMode.TheVariants as mode
+use Rattle.ada_tree.specs.PlainExpr.{EInteger, EIndex, EUnary, EBinary, RGiven}
+use Rattle.ada_tree.specs.PlainStmt.{LFor, PWords, PValue, SNull, SAssign, SExit, SRaise, SAbort, SCall, SWait, SPut, SPutLine, SNewLine, SIf, SCase, SBlock, SLoop, no_stmt, stmt_then, absent, present, accepting, alternative, AAccept, ATerminate, no_alt, alt_then, arm, no_arm, arm_then, case_arm, no_case_arm, case_arm_then, body, handler, no_handler, handler_then}
+use Rattle.ada_tree.specs.PlainDecl.{OPlain, OArray, IOne, IOthers, DObject, DArray, DIntIo, DTask, DTaskBody, no_decl, decl_then}
+use Rattle.ada_tree.specs.PlainProgram.{PProgram}
+use Rattle.collect_model.specs.aborts.examples.Trees.{o, w, n}
+
+-- A caller that is aborted as its call has been accepted in the text, and before this is noted: it is refused, and the next caller is served.
+--
+-- procedure REFUSED is
+--    task S is
+--       entry E;
+--    end S;
+--    task A;
+--    task B;
+--    task body S is
+--    begin
+--       select
+--          accept E do
+--             PUT("E");
+--          end E;
+--          PUT("S");
+--       or
+--          terminate;
+--       end select;
+--    end S;
+--    task body A is
+--    begin
+--       S.E;
+--       PUT("NO");
+--    end A;
+--    task body B is
+--    begin
+--       abort A;
+--       S.E;
+--       PUT("B");
+--    end B;
+-- begin
+--    null;
+-- end REFUSED;
+abbrev pub refused : PProgram
+refused = record { names = (predefined ++ (codes "REFUSED" ∷ codes "S" ∷ codes "E" ∷ codes "A" ∷ codes "B" ∷ [])); text_io = false; name = (w 25); decls = (decl_then (DTask (record { name = (w 26); of_kind = false; entries = ((record { name = (w 27); family = None; formals = []; span = o }) ∷ []); priorities = [] }) o) (decl_then (DTask (record { name = (w 28); of_kind = false; entries = []; priorities = [] }) o) (decl_then (DTask (record { name = (w 29); of_kind = false; entries = []; priorities = [] }) o) (decl_then (DTaskBody (w 26) no_decl (body (stmt_then (SWait (alt_then (alternative None (AAccept (accepting (record { entry = (w 27); index = None; formals = []; span = o }) (present (stmt_then (SPut ((PWords (codes "E") o) ∷ []) o) no_stmt))) (stmt_then (SPut ((PWords (codes "S") o) ∷ []) o) no_stmt)) o) (alt_then (alternative None ATerminate o) no_alt)) absent o) no_stmt) no_handler) o) (decl_then (DTaskBody (w 28) no_decl (body (stmt_then (SCall (record { task = (record { name = (w 26); index = None }); entry = (w 27); args = None }) o) (stmt_then (SPut ((PWords (codes "NO") o) ∷ []) o) no_stmt)) no_handler) o) (decl_then (DTaskBody (w 29) no_decl (body (stmt_then (SAbort ((record { name = (w 28); index = None }) ∷ []) o) (stmt_then (SCall (record { task = (record { name = (w 26); index = None }); entry = (w 27); args = None }) o) (stmt_then (SPut ((PWords (codes "B") o) ∷ []) o) no_stmt))) no_handler) o) no_decl)))))); body = (body (stmt_then (SNull o) no_stmt) no_handler) }
+
+-- Its text:
+--
+-- with TEXT_IO;
+-- use TEXT_IO;
+-- procedure REFUSED is
+--    package DED_INT_IO is new INTEGER_IO(INTEGER);
+--    use DED_INT_IO;
+--    type DED_FLAGS is array (0 .. 3) of BOOLEAN;
+--    DED_G : BOOLEAN := FALSE;
+--    DED_W : INTEGER := 0;
+--    task S is
+--       entry E(DED_C : in INTEGER);
+--    end S;
+--    task A;
+--    task B;
+--    task DED_RECORD is
+--       entry NOTE(DED_NK, DED_NS, DED_NA, DED_NI, DED_NO : in INTEGER; DED_NG : out BOOLEAN);
+--    end DED_RECORD;
+--    task body S is
+--       DED_G : BOOLEAN := FALSE;
+--       DED_W : INTEGER := 0;
+--       DED_Q1 : INTEGER := 0;
+--       DED_R1 : BOOLEAN := FALSE;
+--    begin
+--       begin
+--          loop
+--             begin
+--                select
+--                   accept E(DED_C : in INTEGER) do
+--                      DED_Q1 := DED_C;
+--                      DED_RECORD.NOTE(1, DED_C, 1, 0, 1, DED_G);
+--                      DED_R1 := DED_G;
+--                      if not DED_R1 then
+--                         PUT("E");
+--                      end if;
+--                   end E;
+--                   if DED_R1 then
+--                      DED_W := 0;
+--                   else
+--                      DED_W := 1;
+--                   end if;
+--                or
+--                   terminate;
+--                end select;
+--             exception
+--                when others =>
+--                   DED_RECORD.NOTE(2, 1, DED_Q1, 0, 0, DED_G);
+--                   raise;
+--             end;
+--             exit when DED_W /= 0;
+--          end loop;
+--          if DED_W = 1 then
+--             DED_RECORD.NOTE(2, 1, DED_Q1, 0, 0, DED_G);
+--             PUT("S");
+--          end if;
+--       exception
+--          when others =>
+--             null;
+--       end;
+--       DED_RECORD.NOTE(8, 1, 0, 0, 0, DED_G);
+--    end S;
+--    task body A is
+--       DED_G : BOOLEAN := FALSE;
+--       DED_W : INTEGER := 0;
+--    begin
+--       begin
+--          DED_RECORD.NOTE(0, 2, 0, 0, 0, DED_G);
+--          begin
+--             S.E(2);
+--          exception
+--             when others =>
+--                DED_RECORD.NOTE(7, 2, 1, 0, 1, DED_G);
+--                if DED_G then
+--                   raise TASKING_ERROR;
+--                end if;
+--                raise;
+--          end;
+--          DED_RECORD.NOTE(10, 2, 0, 0, 0, DED_G);
+--          if DED_G then
+--             raise TASKING_ERROR;
+--          end if;
+--          PUT("NO");
+--       exception
+--          when others =>
+--             null;
+--       end;
+--       DED_RECORD.NOTE(8, 2, 0, 0, 0, DED_G);
+--    end A;
+--    task body B is
+--       DED_G : BOOLEAN := FALSE;
+--       DED_W : INTEGER := 0;
+--    begin
+--       begin
+--          DED_RECORD.NOTE(9, 3, 2, 0, 0, DED_G);
+--          DED_RECORD.NOTE(0, 3, 0, 0, 0, DED_G);
+--          begin
+--             S.E(3);
+--          exception
+--             when others =>
+--                DED_RECORD.NOTE(7, 3, 1, 0, 1, DED_G);
+--                if DED_G then
+--                   raise TASKING_ERROR;
+--                end if;
+--                raise;
+--          end;
+--          DED_RECORD.NOTE(10, 3, 0, 0, 0, DED_G);
+--          if DED_G then
+--             raise TASKING_ERROR;
+--          end if;
+--          PUT("B");
+--       exception
+--          when others =>
+--             null;
+--       end;
+--       DED_RECORD.NOTE(8, 3, 0, 0, 0, DED_G);
+--    end B;
+--    task body DED_RECORD is
+--       DED_GONE : DED_FLAGS := (others => FALSE);
+--       DED_MET, DED_ACC : array (0 .. 3) of INTEGER := (others => 0);
+--    begin
+--       PUT_LINE("ded-seq 1 REFUSED 3 1");
+--       loop
+--          select
+--             accept NOTE(DED_NK, DED_NS, DED_NA, DED_NI, DED_NO : in INTEGER; DED_NG : out BOOLEAN) do
+-- .. (as in the text of `itself`, 108 lines: from "DED_NG := FALSE;" to "when 9 =>")
+--                      PUT("B");
+--                      PUT(" ");
+--                      PUT(DED_NS);
+--                      PUT(" ");
+--                      PUT(DED_NA);
+--                      NEW_LINE;
+--                      DED_GONE(DED_NA) := TRUE;
+--                      for DED_U in 0 .. 3 loop
+--                         if DED_MET(DED_U) = 1 and DED_ACC(DED_U) = DED_NA then
+--                            DED_MET(DED_U) := 3;
+--                         end if;
+--                      end loop;
+--                      case DED_NA is
+--                         when 1 =>
+--                            abort S;
+--                         when 2 =>
+--                            abort A;
+--                         when 3 =>
+--                            abort B;
+--                         when others =>
+--                            null;
+--                      end case;
+--                   when others =>
+--                      null;
+--                end case;
+--             end NOTE;
+--          or
+--             terminate;
+--          end select;
+--       end loop;
+--    end DED_RECORD;
+-- begin
+--    null;
+-- end REFUSED;
+abbrev pub refused_text : PProgram
+refused_text = record { names = (predefined ++ (codes "REFUSED" ∷ codes "S" ∷ codes "E" ∷ codes "A" ∷ codes "B" ∷ codes "DED_INT_IO" ∷ codes "DED_FLAGS" ∷ codes "DED_C" ∷ codes "DED_G" ∷ codes "DED_W" ∷ codes "DED_RECORD" ∷ codes "NOTE" ∷ codes "DED_NK" ∷ codes "DED_NS" ∷ codes "DED_NA" ∷ codes "DED_NI" ∷ codes "DED_NO" ∷ codes "DED_NG" ∷ codes "DED_GONE" ∷ codes "DED_MET" ∷ codes "DED_ACC" ∷ codes "DED_U" ∷ codes "DED_Q1" ∷ codes "DED_R1" ∷ [])); text_io = true; name = (w 25); decls = (decl_then (DIntIo (w 30) o) (decl_then (DArray (w 31) (RGiven (record { first = (EInteger 0 o); last = (EInteger 3 o) })) (record { mark = (w 3); bounds = None }) o) (decl_then (DObject ((w 33) ∷ []) false (OPlain (record { mark = (w 3); bounds = None })) (Some (IOne (n 4))) o) (decl_then (DObject ((w 34) ∷ []) false (OPlain (record { mark = (w 0); bounds = None })) (Some (IOne (EInteger 0 o))) o) (decl_then (DTask (record { name = (w 26); of_kind = false; entries = ((record { name = (w 27); family = None; formals = ((record { names = ((w 32) ∷ []); mode = mode.Take; mark = (w 0) }) ∷ []); span = o }) ∷ []); priorities = [] }) o) (decl_then (DTask (record { name = (w 28); of_kind = false; entries = []; priorities = [] }) o) (decl_then (DTask (record { name = (w 29); of_kind = false; entries = []; priorities = [] }) o) (decl_then (DTask (record { name = (w 35); of_kind = false; entries = ((record { name = (w 36); family = None; formals = ((record { names = ((w 37) ∷ (w 38) ∷ (w 39) ∷ (w 40) ∷ (w 41) ∷ []); mode = mode.Take; mark = (w 0) }) ∷ (record { names = ((w 42) ∷ []); mode = mode.Give; mark = (w 3) }) ∷ []); span = o }) ∷ []); priorities = [] }) o) (decl_then (DTaskBody (w 26) (decl_then (DObject ((w 33) ∷ []) false (OPlain (record { mark = (w 3); bounds = None })) (Some (IOne (n 4))) o) (decl_then (DObject ((w 34) ∷ []) false (OPlain (record { mark = (w 0); bounds = None })) (Some (IOne (EInteger 0 o))) o) (decl_then (DObject ((w 47) ∷ []) false (OPlain (record { mark = (w 0); bounds = None })) (Some (IOne (EInteger 0 o))) o) (decl_then (DObject ((w 48) ∷ []) false (OPlain (record { mark = (w 3); bounds = None })) (Some (IOne (n 4))) o) no_decl)))) (body (stmt_then (SBlock (body (stmt_then (SLoop None None (stmt_then (SBlock (body (stmt_then (SWait (alt_then (alternative None (AAccept (accepting (record { entry = (w 27); index = None; formals = ((record { names = ((w 32) ∷ []); mode = mode.Take; mark = (w 0) }) ∷ []); span = o }) (present (stmt_then (SAssign (record { name = (w 47); index = None }) (n 32) o) (stmt_then (SCall (record { task = (record { name = (w 35); index = None }); entry = (w 36); args = (Some (record { first = ((EInteger 1 o) ∷ (n 32) ∷ (EInteger 1 o) ∷ (EInteger 0 o) ∷ (EInteger 1 o) ∷ (n 33) ∷ []); second = None })) }) o) (stmt_then (SAssign (record { name = (w 48); index = None }) (n 33) o) (stmt_then (SIf (arm_then (arm (EUnary unary.Not (n 48) o) (stmt_then (SPut ((PWords (codes "E") o) ∷ []) o) no_stmt)) no_arm) absent o) no_stmt)))))) (stmt_then (SIf (arm_then (arm (n 48) (stmt_then (SAssign (record { name = (w 34); index = None }) (EInteger 0 o) o) no_stmt)) no_arm) (present (stmt_then (SAssign (record { name = (w 34); index = None }) (EInteger 1 o) o) no_stmt)) o) no_stmt)) o) (alt_then (alternative None ATerminate o) no_alt)) absent o) no_stmt) (handler_then (handler [] (stmt_then (SCall (record { task = (record { name = (w 35); index = None }); entry = (w 36); args = (Some (record { first = ((EInteger 2 o) ∷ (EInteger 1 o) ∷ (n 47) ∷ (EInteger 0 o) ∷ (EInteger 0 o) ∷ (n 33) ∷ []); second = None })) }) o) (stmt_then (SRaise None o) no_stmt)) o) no_handler)) o) (stmt_then (SExit None (Some (EBinary binary.NotEqual (n 34) (EInteger 0 o) o)) o) no_stmt)) o) (stmt_then (SIf (arm_then (arm (EBinary binary.Equal (n 34) (EInteger 1 o) o) (stmt_then (SCall (record { task = (record { name = (w 35); index = None }); entry = (w 36); args = (Some (record { first = ((EInteger 2 o) ∷ (EInteger 1 o) ∷ (n 47) ∷ (EInteger 0 o) ∷ (EInteger 0 o) ∷ (n 33) ∷ []); second = None })) }) o) (stmt_then (SPut ((PWords (codes "S") o) ∷ []) o) no_stmt))) no_arm) absent o) no_stmt)) (handler_then (handler [] (stmt_then (SNull o) no_stmt) o) no_handler)) o) (stmt_then (SCall (record { task = (record { name = (w 35); index = None }); entry = (w 36); args = (Some (record { first = ((EInteger 8 o) ∷ (EInteger 1 o) ∷ (EInteger 0 o) ∷ (EInteger 0 o) ∷ (EInteger 0 o) ∷ (n 33) ∷ []); second = None })) }) o) no_stmt)) no_handler) o) (decl_then (DTaskBody (w 28) (decl_then (DObject ((w 33) ∷ []) false (OPlain (record { mark = (w 3); bounds = None })) (Some (IOne (n 4))) o) (decl_then (DObject ((w 34) ∷ []) false (OPlain (record { mark = (w 0); bounds = None })) (Some (IOne (EInteger 0 o))) o) no_decl)) (body (stmt_then (SBlock (body (stmt_then (SCall (record { task = (record { name = (w 35); index = None }); entry = (w 36); args = (Some (record { first = ((EInteger 0 o) ∷ (EInteger 2 o) ∷ (EInteger 0 o) ∷ (EInteger 0 o) ∷ (EInteger 0 o) ∷ (n 33) ∷ []); second = None })) }) o) (stmt_then (SBlock (body (stmt_then (SCall (record { task = (record { name = (w 26); index = None }); entry = (w 27); args = (Some (record { first = ((EInteger 2 o) ∷ []); second = None })) }) o) no_stmt) (handler_then (handler [] (stmt_then (SCall (record { task = (record { name = (w 35); index = None }); entry = (w 36); args = (Some (record { first = ((EInteger 7 o) ∷ (EInteger 2 o) ∷ (EInteger 1 o) ∷ (EInteger 0 o) ∷ (EInteger 1 o) ∷ (n 33) ∷ []); second = None })) }) o) (stmt_then (SIf (arm_then (arm (n 33) (stmt_then (SRaise (Some (w 9)) o) no_stmt)) no_arm) absent o) (stmt_then (SRaise None o) no_stmt))) o) no_handler)) o) (stmt_then (SCall (record { task = (record { name = (w 35); index = None }); entry = (w 36); args = (Some (record { first = ((EInteger 10 o) ∷ (EInteger 2 o) ∷ (EInteger 0 o) ∷ (EInteger 0 o) ∷ (EInteger 0 o) ∷ (n 33) ∷ []); second = None })) }) o) (stmt_then (SIf (arm_then (arm (n 33) (stmt_then (SRaise (Some (w 9)) o) no_stmt)) no_arm) absent o) (stmt_then (SPut ((PWords (codes "NO") o) ∷ []) o) no_stmt))))) (handler_then (handler [] (stmt_then (SNull o) no_stmt) o) no_handler)) o) (stmt_then (SCall (record { task = (record { name = (w 35); index = None }); entry = (w 36); args = (Some (record { first = ((EInteger 8 o) ∷ (EInteger 2 o) ∷ (EInteger 0 o) ∷ (EInteger 0 o) ∷ (EInteger 0 o) ∷ (n 33) ∷ []); second = None })) }) o) no_stmt)) no_handler) o) (decl_then (DTaskBody (w 29) (decl_then (DObject ((w 33) ∷ []) false (OPlain (record { mark = (w 3); bounds = None })) (Some (IOne (n 4))) o) (decl_then (DObject ((w 34) ∷ []) false (OPlain (record { mark = (w 0); bounds = None })) (Some (IOne (EInteger 0 o))) o) no_decl)) (body (stmt_then (SBlock (body (stmt_then (SCall (record { task = (record { name = (w 35); index = None }); entry = (w 36); args = (Some (record { first = ((EInteger 9 o) ∷ (EInteger 3 o) ∷ (EInteger 2 o) ∷ (EInteger 0 o) ∷ (EInteger 0 o) ∷ (n 33) ∷ []); second = None })) }) o) (stmt_then (SCall (record { task = (record { name = (w 35); index = None }); entry = (w 36); args = (Some (record { first = ((EInteger 0 o) ∷ (EInteger 3 o) ∷ (EInteger 0 o) ∷ (EInteger 0 o) ∷ (EInteger 0 o) ∷ (n 33) ∷ []); second = None })) }) o) (stmt_then (SBlock (body (stmt_then (SCall (record { task = (record { name = (w 26); index = None }); entry = (w 27); args = (Some (record { first = ((EInteger 3 o) ∷ []); second = None })) }) o) no_stmt) (handler_then (handler [] (stmt_then (SCall (record { task = (record { name = (w 35); index = None }); entry = (w 36); args = (Some (record { first = ((EInteger 7 o) ∷ (EInteger 3 o) ∷ (EInteger 1 o) ∷ (EInteger 0 o) ∷ (EInteger 1 o) ∷ (n 33) ∷ []); second = None })) }) o) (stmt_then (SIf (arm_then (arm (n 33) (stmt_then (SRaise (Some (w 9)) o) no_stmt)) no_arm) absent o) (stmt_then (SRaise None o) no_stmt))) o) no_handler)) o) (stmt_then (SCall (record { task = (record { name = (w 35); index = None }); entry = (w 36); args = (Some (record { first = ((EInteger 10 o) ∷ (EInteger 3 o) ∷ (EInteger 0 o) ∷ (EInteger 0 o) ∷ (EInteger 0 o) ∷ (n 33) ∷ []); second = None })) }) o) (stmt_then (SIf (arm_then (arm (n 33) (stmt_then (SRaise (Some (w 9)) o) no_stmt)) no_arm) absent o) (stmt_then (SPut ((PWords (codes "B") o) ∷ []) o) no_stmt)))))) (handler_then (handler [] (stmt_then (SNull o) no_stmt) o) no_handler)) o) (stmt_then (SCall (record { task = (record { name = (w 35); index = None }); entry = (w 36); args = (Some (record { first = ((EInteger 8 o) ∷ (EInteger 3 o) ∷ (EInteger 0 o) ∷ (EInteger 0 o) ∷ (EInteger 0 o) ∷ (n 33) ∷ []); second = None })) }) o) no_stmt)) no_handler) o) (decl_then (DTaskBody (w 35) (decl_then (DObject ((w 43) ∷ []) false (OPlain (record { mark = (w 31); bounds = None })) (Some (IOthers (n 4) o)) o) (decl_then (DObject ((w 44) ∷ (w 45) ∷ []) false (OArray (RGiven (record { first = (EInteger 0 o); last = (EInteger 3 o) })) (record { mark = (w 0); bounds = None })) (Some (IOthers (EInteger 0 o) o)) o) no_decl)) (body (stmt_then (SPutLine ((PWords (codes "ded-seq 1 REFUSED 3 1") o) ∷ []) o) (stmt_then (SLoop None None (stmt_then (SWait (alt_then (alternative None (AAccept (accepting (record { entry = (w 36); index = None; formals = ((record { names = ((w 37) ∷ (w 38) ∷ (w 39) ∷ (w 40) ∷ (w 41) ∷ []); mode = mode.Take; mark = (w 0) }) ∷ (record { names = ((w 42) ∷ []); mode = mode.Give; mark = (w 3) }) ∷ []); span = o }) (present (stmt_then (SAssign (record { name = (w 42); index = None }) (n 4) o) (stmt_then (SCase (n 37) (case_arm_then (case_arm ((record { first = (EInteger 0 o); last = None }) ∷ []) (stmt_then (SAssign (record { name = (w 44); index = (Some (n 38)) }) (EInteger 0 o) o) no_stmt)) (case_arm_then (case_arm ((record { first = (EInteger 1 o); last = None }) ∷ []) (stmt_then (SIf (arm_then (arm (EIndex (w 43) (n 38) o) (stmt_then (SAssign (record { name = (w 42); index = None }) (n 5) o) no_stmt)) no_arm) (present (stmt_then (SAssign (record { name = (w 44); index = (Some (n 38)) }) (EInteger 1 o) o) (stmt_then (SAssign (record { name = (w 45); index = (Some (n 38)) }) (n 41) o) (stmt_then (SPut ((PWords (codes "R") o) ∷ []) o) (stmt_then (SPut ((PWords (codes " ") o) ∷ []) o) (stmt_then (SPut ((PValue (n 38)) ∷ []) o) (stmt_then (SPut ((PWords (codes " ") o) ∷ []) o) (stmt_then (SPut ((PValue (n 39)) ∷ []) o) (stmt_then (SPut ((PWords (codes " ") o) ∷ []) o) (stmt_then (SPut ((PValue (n 40)) ∷ []) o) (stmt_then (SNewLine o) no_stmt))))))))))) o) no_stmt)) (case_arm_then (case_arm ((record { first = (EInteger 2 o); last = None }) ∷ []) (stmt_then (SIf (arm_then (arm (EBinary binary.And (EBinary binary.Equal (EIndex (w 44) (n 39) o) (EInteger 1 o) o) (EBinary binary.Equal (EIndex (w 45) (n 39) o) (n 38) o) o) (stmt_then (SPut ((PWords (codes "E") o) ∷ []) o) (stmt_then (SPut ((PWords (codes " ") o) ∷ []) o) (stmt_then (SPut ((PValue (n 38)) ∷ []) o) (stmt_then (SNewLine o) (stmt_then (SAssign (record { name = (w 44); index = (Some (n 39)) }) (EInteger 2 o) o) no_stmt)))))) no_arm) absent o) no_stmt)) (case_arm_then (case_arm ((record { first = (EInteger 3 o); last = None }) ∷ []) (stmt_then (SPut ((PWords (codes "S") o) ∷ []) o) (stmt_then (SPut ((PWords (codes " ") o) ∷ []) o) (stmt_then (SPut ((PValue (n 38)) ∷ []) o) (stmt_then (SNewLine o) no_stmt))))) (case_arm_then (case_arm ((record { first = (EInteger 4 o); last = None }) ∷ []) (stmt_then (SPut ((PWords (codes "D") o) ∷ []) o) (stmt_then (SPut ((PWords (codes " ") o) ∷ []) o) (stmt_then (SPut ((PValue (n 38)) ∷ []) o) (stmt_then (SPut ((PWords (codes " ") o) ∷ []) o) (stmt_then (SPut ((PValue (n 39)) ∷ []) o) (stmt_then (SNewLine o) no_stmt))))))) (case_arm_then (case_arm ((record { first = (EInteger 5 o); last = None }) ∷ []) (stmt_then (SIf (arm_then (arm (EIndex (w 43) (n 41) o) (stmt_then (SPut ((PWords (codes "F") o) ∷ []) o) (stmt_then (SPut ((PWords (codes " ") o) ∷ []) o) (stmt_then (SPut ((PValue (n 38)) ∷ []) o) (stmt_then (SPut ((PWords (codes " ") o) ∷ []) o) (stmt_then (SPut ((PValue (n 39)) ∷ []) o) (stmt_then (SPut ((PWords (codes " ") o) ∷ []) o) (stmt_then (SPut ((PValue (n 40)) ∷ []) o) (stmt_then (SNewLine o) (stmt_then (SAssign (record { name = (w 42); index = None }) (n 5) o) no_stmt)))))))))) no_arm) (present (stmt_then (SPut ((PWords (codes "C") o) ∷ []) o) (stmt_then (SPut ((PWords (codes " ") o) ∷ []) o) (stmt_then (SPut ((PValue (n 38)) ∷ []) o) (stmt_then (SPut ((PWords (codes " ") o) ∷ []) o) (stmt_then (SPut ((PValue (n 39)) ∷ []) o) (stmt_then (SPut ((PWords (codes " ") o) ∷ []) o) (stmt_then (SPut ((PValue (n 40)) ∷ []) o) (stmt_then (SNewLine o) no_stmt))))))))) o) no_stmt)) (case_arm_then (case_arm ((record { first = (EInteger 6 o); last = None }) ∷ []) (stmt_then (SIf (arm_then (arm (EIndex (w 43) (n 41) o) (stmt_then (SPut ((PWords (codes "F") o) ∷ []) o) (stmt_then (SPut ((PWords (codes " ") o) ∷ []) o) (stmt_then (SPut ((PValue (n 38)) ∷ []) o) (stmt_then (SPut ((PWords (codes " ") o) ∷ []) o) (stmt_then (SPut ((PValue (n 39)) ∷ []) o) (stmt_then (SPut ((PWords (codes " ") o) ∷ []) o) (stmt_then (SPut ((PValue (n 40)) ∷ []) o) (stmt_then (SNewLine o) (stmt_then (SAssign (record { name = (w 42); index = None }) (n 5) o) no_stmt)))))))))) no_arm) (present (stmt_then (SPut ((PWords (codes "T") o) ∷ []) o) (stmt_then (SPut ((PWords (codes " ") o) ∷ []) o) (stmt_then (SPut ((PValue (n 38)) ∷ []) o) (stmt_then (SPut ((PWords (codes " ") o) ∷ []) o) (stmt_then (SPut ((PValue (n 39)) ∷ []) o) (stmt_then (SPut ((PWords (codes " ") o) ∷ []) o) (stmt_then (SPut ((PValue (n 40)) ∷ []) o) (stmt_then (SNewLine o) no_stmt))))))))) o) no_stmt)) (case_arm_then (case_arm ((record { first = (EInteger 7 o); last = None }) ∷ (record { first = (EInteger 10 o); last = None }) ∷ []) (stmt_then (SIf (arm_then (arm (EBinary binary.Equal (EIndex (w 44) (n 38) o) (EInteger 1 o) o) (stmt_then (SPut ((PWords (codes "E") o) ∷ []) o) (stmt_then (SPut ((PWords (codes " ") o) ∷ []) o) (stmt_then (SPut ((PValue (EIndex (w 45) (n 38) o)) ∷ []) o) (stmt_then (SNewLine o) (stmt_then (SAssign (record { name = (w 44); index = (Some (n 38)) }) (EInteger 2 o) o) no_stmt)))))) (arm_then (arm (EBinary binary.Equal (EIndex (w 44) (n 38) o) (EInteger 3 o) o) (stmt_then (SAssign (record { name = (w 42); index = None }) (n 5) o) no_stmt)) (arm_then (arm (EBinary binary.And (EBinary binary.Equal (EIndex (w 44) (n 38) o) (EInteger 0 o) o) (EBinary binary.Equal (n 37) (EInteger 7 o) o) o) (stmt_then (SPut ((PWords (codes "F") o) ∷ []) o) (stmt_then (SPut ((PWords (codes " ") o) ∷ []) o) (stmt_then (SPut ((PValue (n 38)) ∷ []) o) (stmt_then (SPut ((PWords (codes " ") o) ∷ []) o) (stmt_then (SPut ((PValue (n 39)) ∷ []) o) (stmt_then (SPut ((PWords (codes " ") o) ∷ []) o) (stmt_then (SPut ((PValue (n 40)) ∷ []) o) (stmt_then (SNewLine o) (stmt_then (SAssign (record { name = (w 42); index = None }) (n 5) o) no_stmt)))))))))) no_arm))) absent o) no_stmt)) (case_arm_then (case_arm ((record { first = (EInteger 8 o); last = None }) ∷ []) (stmt_then (SAssign (record { name = (w 43); index = (Some (n 38)) }) (n 5) o) (stmt_then (SPut ((PWords (codes "X") o) ∷ []) o) (stmt_then (SPut ((PWords (codes " ") o) ∷ []) o) (stmt_then (SPut ((PValue (n 38)) ∷ []) o) (stmt_then (SNewLine o) no_stmt)))))) (case_arm_then (case_arm ((record { first = (EInteger 9 o); last = None }) ∷ []) (stmt_then (SPut ((PWords (codes "B") o) ∷ []) o) (stmt_then (SPut ((PWords (codes " ") o) ∷ []) o) (stmt_then (SPut ((PValue (n 38)) ∷ []) o) (stmt_then (SPut ((PWords (codes " ") o) ∷ []) o) (stmt_then (SPut ((PValue (n 39)) ∷ []) o) (stmt_then (SNewLine o) (stmt_then (SAssign (record { name = (w 43); index = (Some (n 39)) }) (n 5) o) (stmt_then (SLoop None (Some (LFor (w 46) false (RGiven (record { first = (EInteger 0 o); last = (EInteger 3 o) })))) (stmt_then (SIf (arm_then (arm (EBinary binary.And (EBinary binary.Equal (EIndex (w 44) (n 46) o) (EInteger 1 o) o) (EBinary binary.Equal (EIndex (w 45) (n 46) o) (n 39) o) o) (stmt_then (SAssign (record { name = (w 44); index = (Some (n 46)) }) (EInteger 3 o) o) no_stmt)) no_arm) absent o) no_stmt) o) (stmt_then (SCase (n 39) (case_arm_then (case_arm ((record { first = (EInteger 1 o); last = None }) ∷ []) (stmt_then (SAbort ((record { name = (w 26); index = None }) ∷ []) o) no_stmt)) (case_arm_then (case_arm ((record { first = (EInteger 2 o); last = None }) ∷ []) (stmt_then (SAbort ((record { name = (w 28); index = None }) ∷ []) o) no_stmt)) (case_arm_then (case_arm ((record { first = (EInteger 3 o); last = None }) ∷ []) (stmt_then (SAbort ((record { name = (w 29); index = None }) ∷ []) o) no_stmt)) no_case_arm))) (present (stmt_then (SNull o) no_stmt)) o) no_stmt)))))))))) no_case_arm)))))))))) (present (stmt_then (SNull o) no_stmt)) o) no_stmt)))) no_stmt) o) (alt_then (alternative None ATerminate o) no_alt)) absent o) no_stmt) o) no_stmt)) no_handler) o) no_decl)))))))))))); body = (body (stmt_then (SNull o) no_stmt) no_handler) }

@@ -1,0 +1,12 @@
+//! What the recorder of a collecting text of a program with abort statements does, task by task. The crate has no functions of its own but the one that carries the laws.
+
+ghost use Rattle.collect_runs.specs.aborts.recorder.Laws.{RecordersTakeNotes};
+
+/// Carries what a recorder does in every program that is as `IsRecorder` asks, whoever tells it what (`takes`). Its first step writes the header, and
+/// from there it comes to its wait, at which it takes a note or terminates. As a task has told it a note (`Tells`) it comes to where it writes the
+/// event's line: piece by piece, one local step each, and then the line's end. From there it comes to the end of its accept body, with the answer, and
+/// as the rendezvous has ended to its wait again; behind the line of an abort it aborts the task first. What it keeps and answers is what the law of
+/// collecting with aborts says (`run_laws`, module `aborts`).
+pub fn laws()
+    ensures takes { RecordersTakeNotes }
+{}

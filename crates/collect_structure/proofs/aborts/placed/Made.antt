@@ -1,0 +1,273 @@
+-- Each piece of a collecting text of a program with abort statements is well placed.
+use Rattle.std.proofs.Common.{◌≡◌, ℕ, ◌+◌, ◌*◌, ◌<◌, ◌≤◌, ◌==◌, ◌&&◌, Bool, true, false, List, [], ◌∷◌, length, slice_get, Option, Some, None, option_map, IfSome, unwrap_or, position, All, inl, refl, arith}
+use Rattle.std.proofs.lemmas.List.Elements.{All-from_recursion, All-head, All-cons}
+use Rattle.std.proofs.lemmas.List.Quantifiers.{position-Some}
+use Rattle.ada_tree.specs.declared.naming.NameId.{NameId}
+use Rattle.ada_tree.specs.declared.naming.Span.{Span}
+use Rattle.ada_tree.specs.declared.static_types.Kind.{Kind}
+use Rattle.ada_tree.specs.declared.static_types.Kind.TheVariants as kind
+use Rattle.ada_tree.specs.PlainExpr.{PExpr, EInteger, EName, PDrange}
+use Rattle.ada_tree.specs.PlainStmt.{PArgs, PCall, PHandlers, no_handler, handler_then, handler}
+use Rattle.ada_tree.specs.Every.{Rules, EveryWord, EveryExpr, EveryExprs, EveryArgs, EveryFormal}
+use Rattle.ada_tree.specs.WellPlaced.{OthersLast, well_placed}
+use Rattle.ada_tree.specs.Lexical.{IsInteger}
+use Rattle.syn_event.specs.Numbering.{Numbering, owner_of}
+use Rattle.task_model.specs.Setting.{Setting, first_expr, lists_in, lists_of, is_family, entry_of}
+use Rattle.normal_model.specs.Ranges.{kind_of_range, family_range}
+use Rattle.normal_model.specs.Calls.{entry_called, lists_called}
+use Rattle.normal_model.specs.RewrittenUnit.{RewrittenUnit}
+use Rattle.normal_model.specs.Walk.{after_stmts, inside_handlers}
+use Rattle.task_laws.specs.legal.asked.Asked.{Asks}
+use Rattle.task_laws.specs.legal.asked.Kinds.{place_asks, both}
+use Rattle.normal_laws.specs.structure.placed.Placeable.{IsName}
+use Rattle.replay_model.specs.Asking.{as_number, number_in, member_number}
+use Rattle.replay_structure.specs.asked.Pieces.{StandsNear}
+use Rattle.replay_structure.specs.placed.Fitting.{IsShallow, reach, fit_asks}
+use Rattle.replay_structure.proofs.placed.Moved.{expr-moved, option-moved, args-moved, choices-moved, scheme-moved, words-moved, word-moved, formals-moved, plain-moved}
+use Rattle.collect_model.specs.declared.AddedNames.{AddedNames}
+use Rattle.collect_model.specs.Teller.{Teller, task_of}
+use Rattle.collect_model.specs.Noting.{number, own_number, note_actuals}
+use Rattle.collect_model.specs.Calling.{member_called, args_with}
+use Rattle.collect_model.specs.Serving.{caller_formal}
+use Rattle.collect_structure.specs.placed.Placeable.{HasLists, tell_asks}
+use Rattle.collect_structure.proofs.placed.Named.{AreAdded}
+use Rattle.collect_structure.proofs.placed.Made.{formal-placed}
+use Rattle.replay_structure.proofs.placed.Made.{number-few}
+use Rattle.collect_model.specs.aborts.AbortTeller.{AbortTeller}
+use Rattle.collect_model.specs.aborts.Calling.{is_part}
+use Rattle.collect_model.specs.aborts.Serving.{is_not_refused}
+use Rattle.collect_model.specs.aborts.Waiting.{is_taken}
+use Rattle.collect_model.specs.aborts.AbortStmts.{abort_rewriter}
+use Rattle.collect_structure.specs.aborts.asked.Pieces.{Pieces}
+use Rattle.collect_structure.specs.aborts.placed.Placeable.{branch_asks}
+use Rattle.collect_structure.proofs.aborts.placed.Named.{ArePlaces}
+
+-- ---- numbers
+
+next-few : {A : Type 0} (p : A → Bool) (xs : List A) → unwrap_or (option_map (λ k. k + 1) (position p xs)) 0 ≤ length xs
+next-few {A = A} p xs = by_list xs
+  where
+    go : (ys : List A) (d : A) (o : Option ℕ) → position p ys ≡ o → unwrap_or (option_map (λ k. k + 1) o) 0 ≤ length ys
+    go ys d None e = omega arith
+    go ys d (Some k) e = let l : k < length ys = (position-Some p ys k d e).0 in omega (arith, l)
+
+    by_list : (ys : List A) → unwrap_or (option_map (λ k. k + 1) (position p ys)) 0 ≤ length ys
+    by_list [] = omega arith
+    by_list (y ∷ ys) = go (y ∷ ys) y (position p (y ∷ ys)) refl
+
+entry-few : (numbers : Numbering) (t : ℕ) (name : NameId) → entry_of numbers t name ≤ length numbers.entries
+entry-few numbers t name = next-few (λ info. (info.owner == t) && (info.name.0 == name.0)) numbers.entries
+
+-- ---- the pieces
+
+module _ (u : RewrittenUnit) (task : ℕ) (names names' : List (List ℕ)) (n : AddedNames) (old : (id : NameId) → IsName names id → IsName names' id) (known : AreAdded u.setting names' n)
+    (few_entries : IsInteger (length u.setting.numbers.entries)) (few_tasks : IsInteger (length u.setting.numbers.tasks)) (few_task : IsInteger task)
+    (owners : (e : ℕ) → IsInteger (owner_of u.setting.numbers e))
+    (acceptors each : NameId) (taken refused : ℕ → NameId)
+    (places : ArePlaces names'
+    (record { teller = record { added = n; member = λ e s i. member_number u.setting s e i; numbers = u.setting.numbers; task = task }; acceptors = acceptors; each = each; taken = taken; refused = refused })) where
+  abbrev g : Setting
+  g = u.setting
+
+  -- the unit as one that tells
+  abbrev pub x : Teller
+  x = record { added = n; member = λ e s i. member_number g s e i; numbers = g.numbers; task = task }
+
+  abbrev pub y : AbortTeller
+  y = record { teller = x; acceptors = acceptors; each = each; taken = taken; refused = refused }
+
+  abbrev r : Rules
+  r = well_placed names
+
+  abbrev r' : Rules
+  r' = well_placed names'
+
+  abbrev C : Type 0
+  C = ((Prim.Unit {0} × Prim.Unit {0}) × Prim.Unit {0}) × Prim.Unit {0}
+
+  abbrev pub b : Asks C
+  b = both (both (both (place_asks r) (fit_asks u)) (tell_asks u)) branch_asks
+
+  abbrev pub a : Asks (Prim.Unit {0})
+  a = place_asks r'
+
+  -- ---- members of families
+
+  module _ (s : Span) (e : PExpr) (q : ℕ) (le : q ≤ 300) (one : EveryExpr r' q e) (two : EveryExpr r' (q + 1) e) where
+    as-number-placed : (k : ℕ) (o : Option Kind) → EveryExpr r' q (as_number g.types s k o e)
+    as-number-placed k (Some kind.Integer) = one
+    as-number-placed k (Some kind.Truth) = (le, known.kinds k, known.first 20 (omega arith), two)
+    as-number-placed k (Some (kind.Enumeration ids)) = (le, known.kinds k, known.first 20 (omega arith), two)
+    as-number-placed k (Some (kind.Array index first last part)) = (le, known.kinds k, known.first 20 (omega arith), two)
+    as-number-placed k None = (le, known.kinds k, known.first 20 (omega arith), two)
+
+    number-placed : (o : Option PDrange) → EveryExpr r' q (number_in g.types s o e)
+    number-placed None = one
+    number-placed (Some y) = as-number-placed (kind_of_range g.types y) (slice_get g.types.kinds (kind_of_range g.types y))
+
+  member-placed : (s : Span) (e q : ℕ) (o : Option PExpr) → q ≤ 300 → ((j : ℕ) → j ≤ q + 1 → IfSome o (EveryExpr r' j)) → EveryExpr r' q (member_number g s e o)
+  member-placed s e q None le h = (le, omega arith)
+  member-placed s e q (Some y) le h = number-placed s y q le (h q (omega arith)) (h (q + 1) (omega arith)) (family_range g e)
+
+  -- ---- notes
+
+  notes-placed : (q : ℕ) (s : Span) (k : ℕ) (t : PExpr) (e : ℕ) (i : PExpr) (o : ℕ) → q ≤ 300 → IsInteger k → EveryExpr r' q t → IsInteger e → EveryExpr r' q i →
+      IsInteger o → IsName names' n.note × EveryArgs r' q (record { first = note_actuals x s k t e i o; second = None })
+  notes-placed q s k t e i o le few one few_e two few_o = (
+    known.note,
+    (
+      (omega arith, All-from_recursion (EveryExpr r' q) (note_actuals x s k t e i o) ((le, few), (one, ((le, few_e), (two, ((le, few_o), ((le, known.answer), tt))))))),
+      tt,
+    ),
+  )
+
+  own-placed : (q : ℕ) (s : Span) → q ≤ 300 → EveryExpr r' q (own_number x s)
+  own-placed q s le = (le, few_task)
+
+  -- ---- calls
+
+  -- the index of a call, wherever it stands near the call
+  index-moved : (f : Bool) (j q : ℕ) (args : PArgs) → q ≤ j + 3 * j + 50 → EveryArgs (reach j) j args → EveryArgs r j args → IfSome (lists_in f args).index (EveryExpr r' q)
+  index-moved true j q args le f h = first args.first f.0.1 h.0.1
+    where
+      first : (es : List PExpr) → All (EveryExpr (reach j) j) es → All (EveryExpr r j) es → IfSome (first_expr es) (EveryExpr r' q)
+      first [] f h = tt
+      first (e ∷ es) f h = expr-moved names names' old j j q e le (All-head (EveryExpr (reach j) j) e es f) (All-head (EveryExpr r j) e es h)
+  index-moved false j q args le f h = tt
+
+  called-index : (e j q : ℕ) (o : Option PArgs) → q ≤ j + 3 * j + 50 → IfSome o (EveryArgs (reach j) j) → IfSome o (EveryArgs r j) → IfSome (lists_of g.numbers e o).index (EveryExpr r' q)
+  called-index e j q None le f h = tt
+  called-index e j q (Some args) le f h = index-moved (is_family g.numbers e) j q args le f h
+
+  call-note-placed : (c : C) (k j q : ℕ) (s : Span) (kind : ℕ) (y : PCall) → IsShallow k → k + 1 ≤ j → b.call c j y → kind ≤ 10 → StandsNear k q →
+      IsName names' n.note × EveryArgs r' q (record { first = note_actuals x s kind (own_number x s) (entry_called g y) (member_called x s y) (owner_of g.numbers (entry_called g y)); second = None })
+  call-note-placed c k j q s kind y h low i few le =
+      let small : q ≤ 300 = omega (arith, h, le) in
+      notes-placed q s kind (own_number x s) (entry_called g y) (member_called x s y) (owner_of g.numbers (entry_called g y)) small (omega (arith, few)) (own-placed q s small)
+      (omega (arith, entry-few g.numbers (unwrap_or (position (λ info. info.name.0 == y.task.name.name.0) g.numbers.tasks) 0) y.entry.name, few_entries))
+      (member-placed s (entry_called g y) q (lists_called g y).index small (λ m l. called-index (entry_called g y) j m y.args (omega (arith, l, le, low)) i.0.0.1.0 i.0.0.0.1))
+      (owners (entry_called g y))
+
+  telling-placed : (j q : ℕ) (s : Span) (f : Bool) (o : Option PArgs) → q ≤ 300 → q ≤ j + 3 * j + 50 → (f ≡ true → HasLists o) → IfSome o (EveryArgs (reach j) j) →
+      IfSome o (EveryArgs r j) → EveryArgs r' q (args_with f (own_number x s) o)
+  telling-placed j q s true None small le has f h = absurd (has refl)
+  telling-placed j q s true (Some args) small le has f h =
+      let moved : EveryArgs r' q args = args-moved names names' old j j q (Some args) le f h in
+      (moved.0, (omega arith, All-cons (EveryExpr r' q) (own_number x s) (unwrap_or args.second []) (own-placed q s small) (behind args.second moved.1)))
+    where
+      behind : (m : Option (List PExpr)) → IfSome m (EveryExprs r' q) → All (EveryExpr r' q) (unwrap_or m [])
+      behind None i = All-from_recursion (EveryExpr r' q) [] tt
+      behind (Some es) i = i.1
+  telling-placed j q s false None small le has f h = ((omega arith, All-from_recursion (EveryExpr r' q) (own_number x s ∷ []) (own-placed q s small, tt)), tt)
+  telling-placed j q s false (Some args) small le has f h =
+      let moved : EveryArgs r' q args = args-moved names names' old j j q (Some args) le f h in
+      ((omega arith, All-cons (EveryExpr r' q) (own_number x s) args.first (own-placed q s small) moved.0.1), moved.1)
+
+  -- ---- accepts
+
+  others-last : (hs : PHandlers) (t : ℕ) → OthersLast hs → OthersLast (inside_handlers (abort_rewriter y) hs t)
+  others-last no_handler t h = tt
+  others-last (handler_then (handler [] l s) no_handler) t h = (tt, tt)
+  others-last (handler_then (handler [] l s) (handler_then (handler vs m s') rest)) t h = absurd h.0
+  others-last (handler_then (handler (w ∷ ws) l s) rest) t h = (tt, others-last rest (after_stmts (abort_rewriter y) l t) h.1)
+
+  -- ---- all pieces
+
+  -- NOTE with an argument that is an expression
+  about-placed : (q : ℕ) (s : Span) (k : ℕ) (t e : PExpr) → q ≤ 300 → IsInteger k → EveryExpr r' q t → EveryExpr r' q e →
+      EveryArgs r' q (record { first = number s k ∷ t ∷ e ∷ number s 0 ∷ number s 0 ∷ EName n.answer s ∷ []; second = None })
+  about-placed q s k t e le few one two = (
+    (
+      omega arith,
+      All-from_recursion (EveryExpr r' q) (number s k ∷ t ∷ e ∷ number s 0 ∷ number s 0 ∷ EName n.answer s ∷ [])
+          ((le, few), (one, (two, ((le, omega arith), ((le, omega arith), ((le, known.answer), tt)))))),
+    ),
+    tt,
+  )
+
+  test-placed : (w q : ℕ) (s : Span) → q ≤ 299 → IsInteger w → EveryExpr r' q (is_part x s w)
+  test-placed w q s le few = (omega (arith, le), (inl (omega arith), omega arith), (omega (arith, le), known.part), (omega (arith, le), few))
+
+  unrefused-placed : (q : ℕ) (s : Span) (p : ℕ) → q ≤ 299 → EveryExpr r' q (is_not_refused y s p)
+  unrefused-placed q s p le = (omega (arith, le), omega arith, (omega (arith, le), places.refused p))
+
+  taken-placed : (q : ℕ) (s : Span) → q ≤ 299 → EveryExpr r' q (is_taken y s)
+  taken-placed q s le = (omega (arith, le), (inl (omega arith), omega arith), (omega (arith, le), known.part), (omega (arith, le), omega arith))
+
+  pub pieces : (most : ℕ) → Pieces y most IsShallow b a (λ c d. Prim.Unit {0}) (λ c d. Prim.Unit {0})
+  pieces most = record {
+    near = λ c d rel. tt;
+    looping = λ c d k w z rel h. tt;
+    handling = λ c d rel. tt;
+    in_accept = λ c d k h rel i. tt;
+    in_loop = λ c d rel. tt;
+    in_handler = λ c d rel. tt;
+    here = λ c k s h. h.0.0.1;
+    here_accepted = λ c k h i. i.0.0.1.0;
+    outer = λ c d k q s rel h le. omega (arith, h, le);
+    many = λ q h. h.0.0.0;
+    some = λ q. omega arith;
+    duration = λ q h. h.0.0.0;
+    plain = λ c d k q z i rel h le. plain-moved names names' old k q z i le h.0.0.1 h.0.0.0;
+    condition = λ c d k q e rel h le. expr-moved names names' old k k q e (omega (arith, le)) h.0.0.1 h.0.0.0;
+    selector = λ c d k q e xs others s rel h le. expr-moved names names' old k k q e (omega (arith, le)) h.0.0.1 h.0.0.0;
+    choices = λ c d k q e xs rel h le. (h.0.0.0.0, choices-moved names names' old k k q xs (omega (arith, le)) h.0.0.1 h.0.0.0.1);
+    loop = λ c d k q w z rel h le. (word-moved names names' old w h.0.0.0.0, scheme-moved names names' old k k q z (omega (arith, le)) h.0.0.1 h.0.0.0.1);
+    callee = λ c d k j q z rel h under i le. (old z.name.name i.0.0.0.0, option-moved names names' old j j q z.index (omega (arith, le)) i.0.0.1 i.0.0.0.1);
+    aborts = λ c d k q xs rel h le. h.0.0.0;
+    handlers = λ hs t h. others-last hs t h.0.0.0;
+    handled = λ c d k q ids ws rel h le. words-moved names names' old ws h.0.0.0;
+    telling = λ c d k j q s z rel h under t i le.
+        (old z.entry.name i.0.0.0.0, telling-placed j q s (is_family g.numbers (entry_called g z)) z.args (omega (arith, h, under.1, le)) (omega (arith, le)) i.0.1 i.0.0.1.0 i.0.0.0.1);
+    head = λ c d k q h rel i le. (
+      omega (arith, i.0.0.1.0, le),
+      (
+        old h.entry.name i.0.0.0.1.0,
+        option-moved names names' old k (k + 1) (q + 1) h.index (omega (arith, le)) i.0.0.1.1 i.0.0.0.1.1,
+        All-cons (EveryFormal r') (caller_formal n h.entry.span) h.formals (formal-placed u task names names' n old known few_entries few_task owners h.entry.span)
+            (formals-moved names names' old h.formals i.0.0.0.1.2),
+      ),
+    );
+    wait = λ c d k q xs others s t p rel near here h all le. tt;
+    delay = λ c d k q guard s rel near h le. omega (arith, near, le);
+    branched = λ c k xs others s w. w.1;
+    recorder = λ c d k q s rel h le. (known.recorder, tt);
+    own = λ c d k q s kind rel h few le.
+        let small : q ≤ 300 = omega (arith, h, le) in
+        notes-placed q s kind (own_number x s) 0 (EInteger 0 s) 0 small (omega (arith, few)) (own-placed q s small) (omega arith) (small, omega arith) (omega arith);
+    aborted = λ c d k q s z rel h i j le.
+        let small : q ≤ 300 = omega (arith, h, le) in
+        notes-placed q s 9 (own_number x s) (task_of g.numbers z.name.name) (EInteger 0 s) 0 small (omega arith) (own-placed q s small)
+        (omega (arith, number-few (λ info. info.name.0 == z.name.name.0) g.numbers.tasks, few_tasks)) (small, omega arith) (omega arith);
+    delayed = λ c d k q xs others t s place rel h w few le.
+        let small : q ≤ 300 = omega (arith, h, le) in
+        notes-placed q s 4 (own_number x s) place (EInteger 0 s) 0 small (omega arith) (own-placed q s small) (omega (arith, few, w.0.0.1.0)) (small, omega arith) (omega arith);
+    told = λ c d k j q s kind z rel h under t i few le. call-note-placed c k j q s kind z h under.0 i few le;
+    failed = λ c d k j q s z rel h under t i le. call-note-placed c k j q s 7 z h under.0 i (omega arith) le;
+    begun = λ c d k q s h rel i le.
+        let small : q ≤ 300 = omega (arith, i.0.0.1.0, le) in
+        let e : ℕ = entry_of g.numbers task h.entry.name in
+        notes-placed q s 1 (EName n.caller s) e (member_number g s e h.index) task small (omega arith) (small, known.caller) (omega (arith, entry-few g.numbers task h.entry.name, few_entries))
+        (member-placed s e q h.index small (λ m l. option-moved names names' old k (k + 1) m h.index (omega (arith, l, le)) i.0.0.1.1 i.0.0.0.1.1)) few_task;
+    over =
+        λ c d k q s p rel h here le. let small : q ≤ 300 = omega (arith, h, le) in
+        (known.note, about-placed q s 2 (own_number x s) (EName (taken p) s) small (omega arith) (own-placed q s small) (small, places.taken p));
+    takes = λ c d k q s h p rel i here le. (omega (arith, i.0.0.1.0, le), (places.taken p, tt), (omega (arith, i.0.0.1.0, le), known.caller));
+    keeps = λ c d k q s p rel h here le. (omega (arith, h, le), (places.refused p, tt), (omega (arith, h, le), known.answer));
+    refused = λ c d k q s p rel h here le. (omega (arith, h, le), places.refused p);
+    unrefused = λ c d k q s p rel h here le. unrefused-placed q s p (omega (arith, h, le));
+    tries = λ c d k q rel h le. (tt, tt);
+    leaves = λ c d k q s p rel h here le. (omega (arith, h, le), tt, unrefused-placed (q + 1) s p (omega (arith, h, le)));
+    leaves_wait = λ c d k q s rel h le. (omega (arith, h, le), tt, taken-placed (q + 1) s (omega (arith, h, le)));
+    part = λ c d k q s w rel h few le. (omega (arith, h, le), (known.part, tt), (omega (arith, h, le), omega (arith, few)));
+    came = λ c d k q s rel h le. test-placed 1 q s (omega (arith, h, le)) (omega arith);
+    chosen = λ c d k q xs others t s w rel h i few le. (omega (arith, h, le), (known.part, tt), (omega (arith, h, le), omega (arith, few, i.0.0.1.0)));
+    chose = λ c d k q xs others t s w rel h i few le. test-placed w q s (omega (arith, h, le)) (omega (arith, few, i.0.0.1.0));
+    answered = λ c d k q s rel h le. (omega (arith, h, le), known.answer);
+    late = λ c d k q s rel h le. (omega (arith, h, le), known.first 9 (omega arith));
+    others = λ s l. (tt, tt);
+    no_others = tt;
+    other = λ c d k q rel h le. All-from_recursion (EveryWord r') [] tt;
+    null = λ c d k q s rel h le. omega (arith, h, le);
+    again = λ c d k q s rel h le. (omega (arith, h, le), tt);
+  }

@@ -1,6 +1,0 @@
-//! The replaying of a sequence: the text of a program in which only this sequence can happen, on the output.
-#![tactic(auto)]
-
-mod replaying;
-
-pub use replaying::write_replay;

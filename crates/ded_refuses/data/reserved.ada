@@ -1,3 +1,0 @@
-procedure Q is
-   DED_X : INTEGER;
-begin null; end Q;

@@ -1,6 +1,0 @@
-use Rattle.legal_programs.proofs.sites.Meeting.{all_met, all_check_met}
-use Rattle.legal_programs.proofs.sites.NamedDecls.{all_are_named}
-use Rattle.legal_programs.proofs.sites.laws.Goals as goal
-
-pub returns : goal.returns
-returns c = record { met = all_met; checked = all_check_met; names = all_are_named }

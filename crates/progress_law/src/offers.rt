@@ -1,0 +1,11 @@
+//! What the tasks of a legal program offer has numbers that the program has.
+
+ghost use Rattle.progress_law.specs.offers.Laws.{LegalOffersAreKnown, LegalSequencesAreKnown};
+
+/// The laws that whatever a task of a legal original offers, whatever has happened, has numbers that the program has (`offers`), and so has each event of
+/// a feasible sequence (`sequences`). So feasible events may stand in a sequence file. The function does nothing: whoever needs a law calls it for its
+/// clauses.
+pub fn laws()
+    ensures offers { LegalOffersAreKnown }
+    ensures sequences { LegalSequencesAreKnown }
+{}

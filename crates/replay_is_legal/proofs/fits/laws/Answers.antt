@@ -1,5 +1,0 @@
-use Rattle.replay_is_legal.proofs.fits.Carried.{all_normal_fit, all_originals_placed, example_is_met}
-use Rattle.replay_is_legal.proofs.fits.laws.Goals as goal
-
-pub returns : goal.returns
-returns c = record { fits = all_normal_fit; originals = all_originals_placed; met = example_is_met }

@@ -1,6 +1,0 @@
-use Rattle.replay_is_legal.proofs.known.Known.{known_have_literals, known_replay_is_placed}
-use Rattle.replay_is_legal.proofs.known.Instance.{is_met}
-use Rattle.replay_is_legal.proofs.known.laws.Goals as goal
-
-pub returns : goal.returns
-returns c = record { literals = known_have_literals; placed = known_replay_is_placed; met = is_met }

@@ -1,7 +1,0 @@
--- A program and a whole run of it are as the laws ask.
-use Rattle.replay_is_legal.proofs.known.Instance.{known}
-use Rattle.replay_is_legal.proofs.Examples as examples
-use Rattle.replay_is_legal.specs.names.kept_names.Laws.{IsMet}
-
-pub is_met : IsMet
-is_met = (examples.is_met.0, known, examples.is_met.1.places)

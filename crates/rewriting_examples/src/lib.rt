@@ -1,5 +1,0 @@
-//! Small programs with their normal forms and their replay texts, by computation.
-#![tactic(auto)]
-
-pub mod normal;
-pub mod replay;

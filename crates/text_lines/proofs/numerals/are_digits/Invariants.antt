@@ -1,6 +1,0 @@
-use Rattle.std.proofs.Common.{◌≡◌, drop}
-use Rattle.text_lines.specs.Numerals.{are_digits}
-use Rattle.text_lines.proofs.numerals.are_digits.Given as goal
-
-abbrev pub invariant-loop-b : goal.invariant-loop-b
-invariant-loop-b l = are_digits (drop l.b-index l.word) ≡ are_digits l.word
