@@ -1,4 +1,4 @@
-//! That a run of a collecting text records the file of a feasible sequence. The crate has no functions of its own but the one that carries the laws.
+//! That a run of a collecting text records the file of a feasible sequence. The module has no functions of its own but the one that carries the laws.
 
 ghost use Rattle.collect_runs.specs.files.Laws.{MachinesAreRecorded, RecordsMakeFiles, RunsAreRecorded};
 

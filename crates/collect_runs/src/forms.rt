@@ -1,4 +1,4 @@
-//! What the tasks of a legal program's normal form give to those of its collecting text. The crate has no functions of its own but the one that carries the laws.
+//! What the tasks of a legal program's normal form give to those of its collecting text. The module has no functions of its own but the one that carries the laws.
 
 ghost use Rattle.collect_runs.specs.forms.Laws.{LegalTextsTell, LegalTextsCollect};
 

@@ -1,4 +1,4 @@
-//! What a recorder writes is the text of a sequence file. The crate has no functions of its own but the one that carries the laws.
+//! What a recorder writes is the text of a sequence file. The module has no functions of its own but the one that carries the laws.
 
 ghost use Rattle.collect_runs.specs.lines.Laws.{RecordsAreFiles, RecordsAreTexts};
 

@@ -1,4 +1,4 @@
-//! That a text collects what a program does, as it is told of the two programs alone. The crate has no functions of its own but the one that carries the laws.
+//! That a text collects what a program does, as it is told of the two programs alone. The module has no functions of its own but the one that carries the laws.
 
 ghost use Rattle.collect_runs.specs.originals.Laws.{CollectsCarryOver, IsMet, LegalFormsCarryOver, LegalTextsCollectPrograms};
 

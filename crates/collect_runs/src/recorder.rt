@@ -1,4 +1,4 @@
-//! What the recorder of a collecting text does, task by task. The crate has no functions of its own but the one that carries the laws.
+//! What the recorder of a collecting text does, task by task. The module has no functions of its own but the one that carries the laws.
 
 ghost use Rattle.collect_runs.specs.recorder.Laws.{RecordersTakeNotes};
 

@@ -1,4 +1,4 @@
-//! What legal programs give to the law of collecting. The crate has no functions of its own but the one that carries the laws.
+//! What legal programs give to the law of collecting. The module has no functions of its own but the one that carries the laws.
 
 ghost use Rattle.collect_runs.specs.starts.Laws.{LegalFormsAreCollected, LegalHasFlags, LegalHasNoAborts, LegalIsRecorder};
 

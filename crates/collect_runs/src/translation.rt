@@ -1,4 +1,4 @@
-//! The collecting text of a unit as a translation of its normal form. The crate has no functions of its own but the one that carries the laws.
+//! The collecting text of a unit as a translation of its normal form. The module has no functions of its own but the one that carries the laws.
 
 ghost use Rattle.collect_runs.specs.translation.Laws.{CollectIsClosed, CollectKeepsVariables, CollectRaises, CollectStarts, CollectSteps, CollectTranslates, MetByEach};
 

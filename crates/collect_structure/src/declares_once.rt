@@ -1,4 +1,4 @@
-//! That the collecting text of a normal form declares no name twice. The crate has no functions of its own but the one that carries the laws.
+//! That the collecting text of a normal form declares no name twice. The module has no functions of its own but the one that carries the laws.
 
 ghost use Rattle.collect_structure.specs.declares_once.Laws.{CollectDeclaresOnce, IsMet, LegalCollectDeclaresOnce, LegalLeavesNames};
 

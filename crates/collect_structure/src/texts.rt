@@ -1,4 +1,4 @@
-//! The types and the numbers of a collecting text, by those of the program. The crate has no functions of its own but the one that carries the laws.
+//! The types and the numbers of a collecting text, by those of the program. The module has no functions of its own but the one that carries the laws.
 
 ghost use Rattle.collect_structure.specs.texts.Laws.{CollectAgrees, CollectIsRooted, CollectNumbered};
 

@@ -1,4 +1,5 @@
-//! The collecting of a program: its collecting text on the output, or the sequence that a run of it records.
+//! The commands that write a rewritten text or what a run of one tells: the collecting text of a program, or the sequence that a run of it records; its
+//! replay text (`replays`); and the load test, which runs both (`loads`).
 #![tactic(auto)]
 
 mod collecting;

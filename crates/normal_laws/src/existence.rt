@@ -1,4 +1,4 @@
-//! That every legal program has a normal form that shows the same. The crate has no functions but those that carry the laws.
+//! That every legal program has a normal form that shows the same. The module has no functions but those that carry the laws.
 pub mod accepting;
 pub mod clear_scopes;
 pub mod room;

@@ -1,4 +1,4 @@
-//! That the normal form of each legal program is legal. The crate has no functions of its own but the one that carries the laws.
+//! That the normal form of each legal program is legal. The module has no functions of its own but the one that carries the laws.
 pub mod asked;
 pub mod checks;
 pub mod declares_once;

@@ -1,4 +1,5 @@
-//! What the events of a run tell by themselves is so of the tasks of a program, and refuses nothing that can happen.
+//! What the events of a run tell by themselves is so of the tasks of a program, and refuses nothing that can happen. What tasks offer has numbers that the
+//! program has (`offers`). Programs with their rewritings, by computation (`examples`, `rewritten`).
 #![tactic(auto)]
 
 pub mod examples;

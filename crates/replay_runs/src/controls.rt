@@ -1,4 +1,4 @@
-//! At what the controller and the idle task of a replay text stand. The crate has no functions of its own but the one that carries the
+//! At what the controller and the idle task of a replay text stand. The module has no functions of its own but the one that carries the
 //! laws.
 
 pub mod bodies;

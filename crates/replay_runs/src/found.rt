@@ -1,4 +1,4 @@
-//! Look-ups by name among the entries that a replay text adds to the tasks of a program. The crate has no functions of its own but the
+//! Look-ups by name among the entries that a replay text adds to the tasks of a program. The module has no functions of its own but the
 //! one that carries the laws.
 
 ghost use Rattle.replay_runs.specs.found.Laws.{DoublesAreFound, IsMet, LegalDoublesAreFound, LegalHasNamesApart, LegalMoreAreFound, MoreAreFound};

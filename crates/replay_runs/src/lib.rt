@@ -1,4 +1,5 @@
-//! What the tasks of a replay text do: its controller, its idle task, and each task beside the one of the normal form.
+//! What the tasks of a replay text do: its controller, its idle task, and each task beside the one of the normal form. Two programs
+//! that are equal but for places and the ids of names run alike (`same`).
 #![tactic(auto)]
 
 pub mod controls;

@@ -1,5 +1,5 @@
 //! The laws of programs that are the same: equal but for places in the text, names compared by their texts. They run alike.
-//! The crate has no functions of its own but the one that carries the laws.
+//! The module has no functions of its own but the one that carries the laws.
 
 ghost use Rattle.replay_runs.specs.same.Laws.{SameRunAlike, SameAreFeasible, SameReplays, ReadTextReplays, MetByPlaced, ExampleIsMet};
 

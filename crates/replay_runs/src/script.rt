@@ -1,5 +1,5 @@
 //! The project's own script is the one that the law of replaying asks for, spelled in numbers.
-//! The crate has no functions of its own but the one that carries the law.
+//! The module has no functions of its own but the one that carries the law.
 
 ghost use Rattle.replay_runs.specs.script.Laws.{PermitsDiffer, SpellsTheLaw};
 

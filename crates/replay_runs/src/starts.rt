@@ -1,4 +1,4 @@
-//! With which objects the units of a replay text start, and which formals its entries have. The crate has no functions of its own but the
+//! With which objects the units of a replay text start, and which formals its entries have. The module has no functions of its own but the
 //! one that carries the laws.
 
 ghost use Rattle.replay_runs.specs.starts.Formals.{FormalsStay};

@@ -1,4 +1,4 @@
-//! The replay text of a unit as a translation of its normal form. The crate has no functions of its own but the one that carries the laws.
+//! The replay text of a unit as a translation of its normal form. The module has no functions of its own but the one that carries the laws.
 
 ghost use Rattle.replay_runs.specs.translation.Laws.{MetByEach, ReplayIsClosed, ReplayKeepsPermit, ReplayRaises, ReplayStarts, ReplaySteps, ReplayTranslates};
 

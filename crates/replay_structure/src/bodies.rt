@@ -1,4 +1,4 @@
-//! Which body each task of a replay text runs. The crate has no functions of its own but the one that carries the laws.
+//! Which body each task of a replay text runs. The module has no functions of its own but the one that carries the laws.
 
 ghost use Rattle.replay_structure.specs.bodies.Laws.{AddedTasksRun, IsMet, ProgramsRun, TasksKeepNumbers, UnitsAreReplayed};
 

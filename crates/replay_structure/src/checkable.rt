@@ -1,4 +1,4 @@
-//! That the normal form of a legal program is as its replay text asks. The crate has no functions of its own but the one that carries the
+//! That the normal form of a legal program is as its replay text asks. The module has no functions of its own but the one that carries the
 //! laws.
 
 ghost use Rattle.replay_structure.specs.checkable.Laws.{IsMet, NormalIsCheckable, ReplayTextMeets};

@@ -1,4 +1,4 @@
-//! That a replay text meets the rules 13 to 23, where its normal form does. The crate has no functions of its own but the one that carries
+//! That a replay text meets the rules 13 to 23, where its normal form does. The module has no functions of its own but the one that carries
 //! the laws.
 
 ghost use Rattle.replay_structure.specs.checked.Laws.{IsMet, ReplayMeetsChecks};

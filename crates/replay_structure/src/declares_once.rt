@@ -1,4 +1,4 @@
-//! That the replay text of a normal form declares no name twice. The crate has no functions of its own but the one that carries the laws.
+//! That the replay text of a normal form declares no name twice. The module has no functions of its own but the one that carries the laws.
 
 ghost use Rattle.replay_structure.specs.declares_once.Laws.{IsMet, LegalLeavesNames, LegalReplayDeclaresOnce, ReplayDeclaresOnce, ReplayNamesSame};
 

@@ -1,4 +1,4 @@
-//! That the replay texts of a legal program are legal. The crate has no functions of its own but the one that carries the laws.
+//! That the replay texts of a legal program are legal. The module has no functions of its own but the one that carries the laws.
 
 pub mod fits;
 pub mod known;

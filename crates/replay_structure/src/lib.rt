@@ -1,4 +1,4 @@
-//! What a replay text has in common with the normal form that it is made from, part by part.
+//! What a replay text has in common with the normal form that it is made from, part by part; and that the replay text of a legal program is legal (`legal`).
 #![tactic(auto)]
 
 pub mod asked;

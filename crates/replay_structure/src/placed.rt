@@ -1,4 +1,4 @@
-//! That a replay text is well placed. The crate has no functions of its own but the one that carries the laws.
+//! That a replay text is well placed. The module has no functions of its own but the one that carries the laws.
 
 ghost use Rattle.replay_structure.specs.placed.Laws.{IsMet, ReplayIsPlaced, ScriptIsPlaced};
 

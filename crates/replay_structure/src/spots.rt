@@ -1,4 +1,4 @@
-//! The numbers of the entries of a replay text, as the law of replaying asks for them. The crate has no functions of its own but the one
+//! The numbers of the entries of a replay text, as the law of replaying asks for them. The module has no functions of its own but the one
 //! that carries the laws.
 
 ghost use Rattle.replay_structure.specs.spots.Laws.{AddedAreFound, DoublesStand, EntriesAreFound, IsMet, NormalIsInOrder, SpotsAreNumbered, SpotsAreThere, SpotsHaveOwners};

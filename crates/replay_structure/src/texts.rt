@@ -1,4 +1,4 @@
-//! The types and the numbers of a replay text, by those of the program. The crate has no functions of its own but the one that carries the
+//! The types and the numbers of a replay text, by those of the program. The module has no functions of its own but the one that carries the
 //! laws.
 
 ghost use Rattle.replay_structure.specs.texts.Laws.{ExtentsAlike, LegalIsAsked, ReplayAgrees, ReplayIsRooted, ReplayNumbered};

@@ -1,5 +1,5 @@
 //! The law of collecting, over abstract tasks: what one task of a collecting program owes, and what all runs of such a program then show.
-//! The crate has no functions of its own but the one that carries the law.
+//! The module has no functions of its own but the one that carries the law.
 
 ghost use Rattle.run_laws.specs.collecting.Example.{PairIsCollected};
 ghost use Rattle.run_laws.specs.collecting.Told.{LawOfCollecting, MetByAll};

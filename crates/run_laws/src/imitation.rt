@@ -1,5 +1,5 @@
 //! The law of imitation, over abstract tasks: what each task of one program owes to that of another, and that the two programs then show the same events and outputs.
-//! The crate has no functions of its own but the one that carries the law.
+//! The module has no functions of its own but the one that carries the law.
 
 ghost use Rattle.run_laws.specs.imitation.Told.{LawOfFineTasks, LawOfImitation, MetByAll};
 

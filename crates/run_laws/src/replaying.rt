@@ -1,5 +1,5 @@
 //! The law of replaying, over abstract tasks: what one task of a rewritten program owes, and what all runs of such a program then show.
-//! The crate has no functions of its own but the one that carries the law.
+//! The module has no functions of its own but the one that carries the law.
 
 ghost use Rattle.run_laws.specs.replaying.Told.{LawOfReplaying, MetByAll};
 

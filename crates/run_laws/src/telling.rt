@@ -1,5 +1,5 @@
 //! The project's own progress by events alone is one that the law of replaying asks for.
-//! The crate has no functions of its own but the one that carries the law.
+//! The module has no functions of its own but the one that carries the law.
 
 ghost use Rattle.run_laws.specs.telling.Laws.{KnowsRuns, MetByEvents};
 

@@ -1,5 +1,5 @@
 //! What stays true of the tasks of a program as it runs: which statements they stand in, the values of formals, and that each opened accept body belongs to the call of its caller.
-//! The crate has no functions of its own but the one that carries the laws.
+//! The module has no functions of its own but the one that carries the laws.
 
 ghost use Rattle.task_laws.specs.invariants.Example.{IsMet};
 ghost use Rattle.task_laws.specs.invariants.Worlds.{KeptFirst, KeptOn};

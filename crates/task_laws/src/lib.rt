@@ -1,4 +1,5 @@
-//! What stays true of a task as it goes on, and of two tasks of which one is a translation of the other.
+//! What stays true of a task as it goes on, and of two tasks of which one is a translation of the other; and what the static
+//! rules leave of a legal program (`legal`).
 #![tactic(auto)]
 
 pub mod invariants;

@@ -1,5 +1,5 @@
 //! The theorem on translations of statements: a task of a program and its image in a program that is made from it go on alike.
-//! The crate has no functions of its own but the one that carries the theorem; its definitions and lemmas are there for each rewriter.
+//! The module has no functions of its own but the one that carries the theorem; its definitions and lemmas are there for each rewriter.
 
 ghost use Rattle.task_laws.specs.translation.Laws.{StepsFollow, StepsFollowInLoops, RaisesFollow, ValuesFollow, MetByItself};
 

@@ -1,4 +1,4 @@
-//! That the collecting text with abort statements of a legal program collects the program. The crate has no functions of its own but the one that carries the laws.
+//! That the collecting text with abort statements of a legal program collects the program. The module has no functions of its own but the one that carries the laws.
 
 ghost use Rattle.collect_runs.specs.aborts.originals.Laws.{IsMet, LegalTextsCollectPrograms};
 

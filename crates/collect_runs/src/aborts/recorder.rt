@@ -1,4 +1,4 @@
-//! What the recorder of a collecting text of a program with abort statements does, task by task. The crate has no functions of its own but the one that carries the laws.
+//! What the recorder of a collecting text of a program with abort statements does, task by task. The module has no functions of its own but the one that carries the laws.
 
 ghost use Rattle.collect_runs.specs.aborts.recorder.Laws.{RecordersTakeNotes};
 

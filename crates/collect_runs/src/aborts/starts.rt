@@ -1,4 +1,4 @@
-//! What a legal program gives to the recorder of its collecting text with abort statements. The crate has no functions of its own but the one that carries the laws.
+//! What a legal program gives to the recorder of its collecting text with abort statements. The module has no functions of its own but the one that carries the laws.
 
 ghost use Rattle.collect_runs.specs.aborts.starts.Laws.{LegalHasNames, LegalIsRecorder};
 

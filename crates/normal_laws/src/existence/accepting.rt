@@ -1,4 +1,4 @@
-//! What the accepts and the selective waits of a legal program are like. The crate has no functions of its own but the one that carries
+//! What the accepts and the selective waits of a legal program are like. The module has no functions of its own but the one that carries
 //! the laws.
 
 ghost use Rattle.normal_laws.specs.existence.accepting.Laws.{CanAcceptStays, IsMet, LegalBodiesCanAccept, LegalTasksCanAccept};

@@ -1,4 +1,4 @@
-//! How the statements of a normal form name tasks. The crate has no functions of its own but the one that carries the laws.
+//! How the statements of a normal form name tasks. The module has no functions of its own but the one that carries the laws.
 
 ghost use Rattle.normal_laws.specs.existence.statements.Laws.{BodiesNameSimply, LegalTasksNameSimply, NamesStaySimple};
 

@@ -1,4 +1,4 @@
-//! That the normal form of each legal program meets the rules 13 to 23. The crate has no functions of its own but the one that carries the laws.
+//! That the normal form of each legal program meets the rules 13 to 23. The module has no functions of its own but the one that carries the laws.
 
 ghost use Rattle.normal_laws.specs.legality.checks.Laws.{IsMet, NormalMeetsChecks};
 

@@ -1,4 +1,4 @@
-//! That the normal form of a legal program declares no name twice. The crate has no functions of its own but the one that carries the laws.
+//! That the normal form of a legal program declares no name twice. The module has no functions of its own but the one that carries the laws.
 
 ghost use Rattle.normal_laws.specs.legality.declares_once.Laws.{IsMet, NormalDeclaresOnce};
 

@@ -1,4 +1,4 @@
-//! The numbers of a legal program's normal form. The crate has no functions of its own but the one that carries the laws.
+//! The numbers of a legal program's normal form. The module has no functions of its own but the one that carries the laws.
 
 ghost use Rattle.normal_laws.specs.legality.numbers.Laws.{IsMet, LegalHasNumbers, NoneLegalIsDed};
 

@@ -1,5 +1,5 @@
 //! What a task of a program and its image in the program's normal form do between synchronizing statements.
-//! The crate has no functions of its own but the one that carries the laws; its definitions and lemmas are there for the laws of whole runs.
+//! The module has no functions of its own but the one that carries the laws; its definitions and lemmas are there for the laws of whole runs.
 
 ghost use Rattle.normal_laws.specs.runs.floors.Instances.{FormsAreAsked};
 ghost use Rattle.normal_laws.specs.runs.floors.Laws.{NormalTranslates, NormalSteps, NormalStarts, NormalRaises, NormalOpens, NormalEnds, NormalEnters, NormalPreludes};

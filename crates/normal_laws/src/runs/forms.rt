@@ -1,5 +1,5 @@
 //! The law of normal forms for a program and the normal form that is made from it.
-//! The crate has no functions of its own but the one that carries the law.
+//! The module has no functions of its own but the one that carries the law.
 
 ghost use Rattle.normal_laws.specs.runs.forms.Laws.{MadeIsCalm, MadeIsNormal, ProgramsShowSame, IsMet};
 

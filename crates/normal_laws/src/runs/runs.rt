@@ -1,5 +1,5 @@
 //! The law of normal forms, of whole runs.
-//! The crate has no functions of its own but the one that carries the law.
+//! The module has no functions of its own but the one that carries the law.
 
 ghost use Rattle.normal_laws.specs.runs.runs.Example.{IsMet};
 ghost use Rattle.normal_laws.specs.runs.runs.Laws.{NormalFormsAreCalm, NormalFormsShowSame};

@@ -1,4 +1,4 @@
-//! The numbers of a program's normal form, by those of the program. The crate has no functions of its own but the one that carries the law.
+//! The numbers of a program's normal form, by those of the program. The module has no functions of its own but the one that carries the law.
 
 ghost use Rattle.normal_laws.specs.structure.numbers.Laws.{IsMet, NormalHasNumbers};
 

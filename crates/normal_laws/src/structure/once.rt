@@ -1,4 +1,4 @@
-//! Rule Duplicate and the normal form of a program. The crate has no functions of its own but the one that carries the laws.
+//! Rule Duplicate and the normal form of a program. The module has no functions of its own but the one that carries the laws.
 
 ghost use Rattle.normal_laws.specs.structure.once.Laws.{FirstIsFit, InnerIsFit, IsMet, NormalDeclares, NormalNamesSame, OnceIsFit, ProgramIsFit, TaskNamesAreFixed};
 

@@ -1,4 +1,4 @@
-//! That the normal form of a legal original is well placed. The crate has no functions of its own but the one that carries the laws.
+//! That the normal form of a legal original is well placed. The module has no functions of its own but the one that carries the laws.
 
 ghost use Rattle.normal_laws.specs.structure.placed.Laws.{IsMet, NormalIsPlaced, OriginalIsPlaced};
 

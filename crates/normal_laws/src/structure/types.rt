@@ -1,4 +1,4 @@
-//! What the types, values and objects of a program's normal form have in common with the program's. The crate has no functions of its own
+//! What the types, values and objects of a program's normal form have in common with the program's. The module has no functions of its own
 //! but the one that carries the laws.
 
 ghost use Rattle.normal_laws.specs.structure.types.Laws.{AddedNamesAreNew, BodyObjects, FirstDeclsAreFront, IsMet, MainObjects, NormalAgrees, NormalIsRooted, NormalValues, RangeForms, VariableIsObject};

@@ -1,4 +1,4 @@
-//! The tasks, entries and bodies of a program's normal form, by those of the program. The crate has no functions of its own but the one
+//! The tasks, entries and bodies of a program's normal form, by those of the program. The module has no functions of its own but the one
 //! that carries the laws.
 
 ghost use Rattle.normal_laws.specs.structure.units.Laws.{EntriesKeepFormals, IsMet, NamesTellUnits, TasksKeepNumbers, UnitsAreDeclared, UnitsAreRewritten};

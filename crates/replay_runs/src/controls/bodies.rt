@@ -1,4 +1,4 @@
-//! Each replay text is a program as the law of the controller's body asks. The crate has no functions of its own but the one that carries the laws.
+//! Each replay text is a program as the law of the controller's body asks. The module has no functions of its own but the one that carries the laws.
 
 ghost use Rattle.replay_runs.specs.controls.bodies.Laws.{IsMet, LegalHasBody, LegalIsWellMade, LegalTasksJoinNobody};
 

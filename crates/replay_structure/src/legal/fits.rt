@@ -1,4 +1,4 @@
-//! That the normal form of an original is as `replay_structure: placed` asks, so its replay texts are well placed. The crate has no functions of its own but the one that
+//! That the normal form of an original is as `replay_structure: placed` asks, so its replay texts are well placed. The module has no functions of its own but the one that
 //! carries the laws.
 
 ghost use Rattle.replay_structure.specs.legal.fits.Laws.{IsMet, NormalFits, OriginalReplayIsPlaced};

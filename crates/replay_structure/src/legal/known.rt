@@ -1,4 +1,4 @@
-//! That a text can hold the events that a file can hold. The crate has no functions of its own but the one that carries the laws.
+//! That a text can hold the events that a file can hold. The module has no functions of its own but the one that carries the laws.
 
 ghost use Rattle.replay_structure.specs.legal.known.Laws.{IsMet, KnownHaveLiterals, KnownReplayIsPlaced};
 

@@ -1,4 +1,4 @@
-//! That the replay texts of each legal program are legal. The crate has no functions but those that carry the laws.
+//! That the replay texts of each legal program are legal. The module has no functions but those that carry the laws.
 
 pub mod form_names;
 pub mod kept_names;

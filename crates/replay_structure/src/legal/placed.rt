@@ -1,4 +1,4 @@
-//! That the replay texts of legal programs are well placed. The crate has no functions of its own but the one that carries the laws.
+//! That the replay texts of legal programs are well placed. The module has no functions of its own but the one that carries the laws.
 
 ghost use Rattle.replay_structure.specs.legal.placed.Laws.{IsMet, LegalReplayIsPlaced};
 

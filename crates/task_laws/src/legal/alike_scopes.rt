@@ -1,4 +1,4 @@
-//! Scopes of a program and of its rewriting in which old names mean the same. The crate has no functions of its own but the one that
+//! Scopes of a program and of its rewriting in which old names mean the same. The module has no functions of its own but the one that
 //! carries the laws.
 
 ghost use Rattle.task_laws.specs.legal.alike_scopes.Laws.{AlikeRefusesSame, CalledIsSame, CallsRefuseSame, DrangesAreSame, ExprsAreSame, FewerAreAlike, FormalsAreAlike, InsideIsAlike, IsMet, LoopIsAlike, ObjectsAreAlike, RootedIsSame, SelectorsAreSame, TargetsAreSame, TasksRefuseSame};

@@ -1,4 +1,4 @@
-//! What the literals of the enumerations of a legal program stand for. The crate has no functions of its own but the one that carries the laws.
+//! What the literals of the enumerations of a legal program stand for. The module has no functions of its own but the one that carries the laws.
 
 ghost use Rattle.task_laws.specs.legal.literals.Laws.{IndicesAreLiterals, IsMet, LiteralsHaveValues};
 

@@ -1,4 +1,4 @@
-//! What the table of types of a rewritten program has in common with that of the original. The crate has no functions of its own but
+//! What the table of types of a rewritten program has in common with that of the original. The module has no functions of its own but
 //! the one that carries the laws.
 
 ghost use Rattle.task_laws.specs.legal.rewritten_types.Laws.{DeclaredOnce, KindsAreNamed, RewrittenIsRooted, RootedAgrees, StayingIsFront, UnvaluedHasNoMark};

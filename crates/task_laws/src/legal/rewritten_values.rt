@@ -1,4 +1,4 @@
-//! What the values and the objects of a rewritten program have in common with those of the original, by their tables of types. The crate
+//! What the values and the objects of a rewritten program have in common with those of the original, by their tables of types. The module
 //! has no functions of its own but the one that carries the laws.
 
 ghost use Rattle.task_laws.specs.legal.rewritten_values.Laws.{EvaluatedAlike, FormsAlike, IsMet, LiteralsAreNamed, MarkedForm, ObjectsAlike, ObjectsStay, TablesAgreeOnValues};

@@ -1,4 +1,4 @@
-//! What the static rules leave at each place of a program that meets them. The crate has no functions of its own but the one that
+//! What the static rules leave at each place of a program that meets them. The module has no functions of its own but the one that
 //! carries the laws.
 
 ghost use Rattle.task_laws.specs.legal.sites.Laws.{AllCheckMet, AllMet, NamesAreDeclared};

@@ -1,5 +1,5 @@
 //! What the static rules leave of the types of a program that meets them: expressions have kinds, ranges and constants are static, and marks are
-//! those of the program's table. The crate has no functions of its own but the one that carries the law.
+//! those of the program's table. The module has no functions of its own but the one that carries the law.
 
 ghost use Rattle.task_laws.specs.legal.types.Laws.{IsMet, TasksHaveTypes};
 
