@@ -2,3 +2,4 @@ pub mod translation
 pub mod invariants
 pub mod statements
 pub mod legal
+pub mod actions

@@ -2,6 +2,7 @@
 //! rules leave of a legal program (`legal`).
 #![tactic(auto)]
 
+pub mod actions;
 pub mod invariants;
 pub mod legal;
 pub mod statements;

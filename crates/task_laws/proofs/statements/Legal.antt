@@ -1,4 +1,4 @@
--- In a program that meets the static rules each exit leaves a loop.
+-- What the static rules leave of each statement of a unit; and that so each exit leaves a loop.
 use Rattle.std.proofs.Common.{◌≡◌, ℕ, ◌+◌, Bool, true, false, ◌||◌, ◌==◌, if◌then◌else◌, List, [], ◌∷◌, ◌++◌, map, flat_map, option_map, unwrap_or, Option, Some, None, refl, sym, ap, ap₂, ◌∙◌, subst}
 use Rattle.std.specs.List.{AllByRecursion, list_any}
 use Rattle.std.proofs.lemmas.Bool.{eqb-true, eq-eqb}
@@ -55,7 +55,7 @@ any-left w [] = refl
 any-left w (v ∷ loops) = ap₂ (λ a b. a || b) (same-left w v) (any-left w loops)
 
 -- the loops that the rules know of are those around
-abbrev Knows : CheckScope → Loops → Type 0
+abbrev pub Knows : CheckScope → Loops → Type 0
 Knows c loops = c.loops ≡ map loop_name loops
 
 exit-leaves : (w : Option Word) (s : Span) (c : CheckScope) (loops : Loops) → Knows c loops → rule.exit_place c (exits w s) ≡ [] → list_any (is_left w) loops ≡ true
@@ -79,7 +79,12 @@ in-accept-knows c h = meant-loops meant.Inner _ (check.formal_names h.formals)
 
 -- ---- statements
 
-module _ (m : Mode) (names : List (List ℕ)) where
+-- what each statement has by what is met at its places
+abbrev pub AtEach : Mode → List (List ℕ) → (Loops → PStmt → Type 0) → Type 0
+AtEach m names Each =
+    (x : PStmt) (c : CheckScope) (n : ℕ) (loops : Loops) → Knows c loops → AllByRecursion (IsCheckMet m names) (check.stmt_sites c n x) → Each loops x
+
+module _ (m : Mode) (names : List (List ℕ)) (Each : Loops → PStmt → Type 0) (each : AtEach m names Each) where
   abbrev AllMet : List CheckSite → Type 0
   AllMet xs = AllByRecursion (IsCheckMet m names) xs
 
@@ -96,63 +101,64 @@ module _ (m : Mode) (names : List (List ℕ)) where
   third xs ys zs h = back (xs ++ ys) zs h
 
   mutual
-    stmt : (x : PStmt) (c : CheckScope) (n : ℕ) (loops : Loops) → Knows c loops → AllMet (check.stmt_sites c n x) → ExitLeaves loops x × InParts ExitLeaves loops x
-    stmt (SNull s) c n loops k h = (tt, tt)
-    stmt (SAssign t e s) c n loops k h = (tt, tt)
-    stmt (SDelay d s) c n loops k h = (tt, tt)
-    stmt (SExit w e s) c n loops k h = (exit-leaves w s c loops k h.1.0.exits, tt)
-    stmt (SRaise w s) c n loops k h = (tt, tt)
-    stmt (SAbort cs s) c n loops k h = (tt, tt)
-    stmt (SCall x s) c n loops k h = (tt, tt)
-    stmt (SAccept a s) c n loops k h = (tt, accept a c n h)
-    stmt (SWait x o s) c n loops k h =
+    parts : (x : PStmt) (c : CheckScope) (n : ℕ) (loops : Loops) → Knows c loops → AllMet (check.stmt_sites c n x) → InParts Each loops x
+    parts (SNull s) c n loops k h = tt
+    parts (SAssign t e s) c n loops k h = tt
+    parts (SDelay d s) c n loops k h = tt
+    parts (SExit w e s) c n loops k h = tt
+    parts (SRaise w s) c n loops k h = tt
+    parts (SAbort cs s) c n loops k h = tt
+    parts (SCall x s) c n loops k h = tt
+    parts (SAccept a s) c n loops k h = accept a c n h
+    parts (SWait x o s) c n loops k h =
         let us : List CheckSite = check.numbered c Alternatives 0 (check.alt_places x) in
         let vs : List CheckSite = check.alts_sites c (n + 1) x in
         let ws : List CheckSite = check.maybe_sites c (n + 1) o in
-        (tt, (alts x c (n + 1) loops k (second us vs ws h.1.1), maybe o c (n + 1) loops k (third us vs ws h.1.1)))
-    stmt (SConditional x l o s) c n loops k h =
+        (alts x c (n + 1) loops k (second us vs ws h.1.1), maybe o c (n + 1) loops k (third us vs ws h.1.1))
+    parts (SConditional x l o s) c n loops k h =
         let us : List CheckSite = check.select_sites c n x in
         let vs : List CheckSite = check.stmts_sites c (n + 1) l in
         let ws : List CheckSite = check.stmts_sites c (n + 1) o in
-        (tt, (stmts l c (n + 1) loops k (second us vs ws h.1), stmts o c (n + 1) loops k (third us vs ws h.1)))
-    stmt (STimed x l d o s) c n loops k h =
+        (stmts l c (n + 1) loops k (second us vs ws h.1), stmts o c (n + 1) loops k (third us vs ws h.1))
+    parts (STimed x l d o s) c n loops k h =
         let us : List CheckSite = check.select_sites c n x in
         let vs : List CheckSite = check.stmts_sites c (n + 1) l in
         let ws : List CheckSite = check.stmts_sites c (n + 1) o in
-        (tt, (stmts l c (n + 1) loops k (second us vs ws h.1), stmts o c (n + 1) loops k (third us vs ws h.1)))
-    stmt (SPut ps s) c n loops k h = (tt, tt)
-    stmt (SPutLine ps s) c n loops k h = (tt, tt)
-    stmt (SNewLine s) c n loops k h = (tt, tt)
-    stmt (SGet t s) c n loops k h = (tt, tt)
-    stmt (SIf x o s) c n loops k h =
+        (stmts l c (n + 1) loops k (second us vs ws h.1), stmts o c (n + 1) loops k (third us vs ws h.1))
+    parts (SPut ps s) c n loops k h = tt
+    parts (SPutLine ps s) c n loops k h = tt
+    parts (SNewLine s) c n loops k h = tt
+    parts (SGet t s) c n loops k h = tt
+    parts (SIf x o s) c n loops k h =
         let vs : List CheckSite = check.arms_sites c (n + 1) x in
         let ws : List CheckSite = check.maybe_sites c (n + 1) o in
-        (tt, (arms x c (n + 1) loops k (front vs ws h.1), maybe o c (n + 1) loops k (back vs ws h.1)))
-    stmt (SCase e x o s) c n loops k h =
+        (arms x c (n + 1) loops k (front vs ws h.1), maybe o c (n + 1) loops k (back vs ws h.1))
+    parts (SCase e x o s) c n loops k h =
         let us : List CheckSite = check.expr_sites c (n + 1) e in
         let vs : List CheckSite = check.case_arms_sites c (n + 1) x in
         let ws : List CheckSite = check.maybe_sites c (n + 1) o in
-        (tt, (case_arms x c (n + 1) loops k (second us vs ws h.1), maybe o c (n + 1) loops k (third us vs ws h.1)))
-    stmt (SBlock b s) c n loops k h = (tt, of_body b c (n + 1) loops k h.1)
-    stmt (SLoop w x l s) c n loops k h =
+        (case_arms x c (n + 1) loops k (second us vs ws h.1), maybe o c (n + 1) loops k (third us vs ws h.1))
+    parts (SBlock b s) c n loops k h = of_body b c (n + 1) loops k h.1
+    parts (SLoop w x l s) c n loops k h =
         let us : List CheckSite = check.if_there (λ y. check.site c (declares y) ∷ []) w in
         let vs : List CheckSite = check.if_there (check.scheme_sites c (n + 1)) x in
         let ws : List CheckSite = check.stmts_sites (check.in_loop c w x) (n + 1) l in
-        (tt, stmts l (check.in_loop c w x) (n + 1) (w ∷ loops) (in-loop-knows c loops w x k) (third us vs ws h.1))
+        stmts l (check.in_loop c w x) (n + 1) (w ∷ loops) (in-loop-knows c loops w x k) (third us vs ws h.1)
 
-    stmts : (l : PStmts) (c : CheckScope) (n : ℕ) (loops : Loops) → Knows c loops → AllMet (check.stmts_sites c n l) → InStmts ExitLeaves loops l
+    stmts : (l : PStmts) (c : CheckScope) (n : ℕ) (loops : Loops) → Knows c loops → AllMet (check.stmts_sites c n l) → InStmts Each loops l
     stmts no_stmt c n loops k h = tt
     stmts (stmt_then x l) c n loops k h =
-        (stmt x c n loops k (front (check.stmt_sites c n x) (check.stmts_sites c n l) h), stmts l c n loops k (back (check.stmt_sites c n x) (check.stmts_sites c n l) h))
+        let here : AllMet (check.stmt_sites c n x) = front (check.stmt_sites c n x) (check.stmts_sites c n l) h in
+        ((each x c n loops k here, parts x c n loops k here), stmts l c n loops k (back (check.stmt_sites c n x) (check.stmts_sites c n l) h))
 
-    maybe : (o : PMaybe) (c : CheckScope) (n : ℕ) (loops : Loops) → Knows c loops → AllMet (check.maybe_sites c n o) → InMaybe ExitLeaves loops o
+    maybe : (o : PMaybe) (c : CheckScope) (n : ℕ) (loops : Loops) → Knows c loops → AllMet (check.maybe_sites c n o) → InMaybe Each loops o
     maybe absent c n loops k h = tt
     maybe (present l) c n loops k h = stmts l c n loops k h
 
-    accept : (a : PAccept) (c : CheckScope) (n : ℕ) → AllMet (check.accept_sites c n a) → InAccept ExitLeaves a
+    accept : (a : PAccept) (c : CheckScope) (n : ℕ) → AllMet (check.accept_sites c n a) → InAccept Each a
     accept (accepting d o) c n h = maybe o (check.in_accept c d) (n + 1) [] (in-accept-knows c d) (back (check.head_sites c n d) (check.maybe_sites (check.in_accept c d) (n + 1) o) h)
 
-    alts : (x : PAlts) (c : CheckScope) (n : ℕ) (loops : Loops) → Knows c loops → AllMet (check.alts_sites c n x) → InAlts ExitLeaves loops x
+    alts : (x : PAlts) (c : CheckScope) (n : ℕ) (loops : Loops) → Knows c loops → AllMet (check.alts_sites c n x) → InAlts Each loops x
     alts no_alt c n loops k h = tt
     alts (alt_then (alternative guard x s) l) c n loops k h =
         let us : List CheckSite = check.if_there (check.expr_sites c (n + 1)) guard in
@@ -160,13 +166,13 @@ module _ (m : Mode) (names : List (List ℕ)) where
         let ws : List CheckSite = check.alts_sites c n l in
         (alt x c (n + 1) guard s loops k (second us vs ws h.1), alts l c n loops k (third us vs ws h.1))
 
-    alt : (x : PAltKind) (c : CheckScope) (n : ℕ) (guard : Option PExpr) (s : Span) (loops : Loops) → Knows c loops → AllMet (check.alt_sites c n guard s x) → InAltKind ExitLeaves loops x
+    alt : (x : PAltKind) (c : CheckScope) (n : ℕ) (guard : Option PExpr) (s : Span) (loops : Loops) → Knows c loops → AllMet (check.alt_sites c n guard s x) → InAltKind Each loops x
     alt (AAccept a l) c n guard s loops k h =
         (accept a c n (front (check.accept_sites c n a) (check.stmts_sites c n l) h), stmts l c n loops k (back (check.accept_sites c n a) (check.stmts_sites c n l) h))
     alt (ADelay d l) c n guard s loops k h = stmts l c n loops k (back (check.delay_sites c n guard s) (check.stmts_sites c n l) h)
     alt ATerminate c n guard s loops k h = tt
 
-    arms : (x : PArms) (c : CheckScope) (n : ℕ) (loops : Loops) → Knows c loops → AllMet (check.arms_sites c n x) → InArms ExitLeaves loops x
+    arms : (x : PArms) (c : CheckScope) (n : ℕ) (loops : Loops) → Knows c loops → AllMet (check.arms_sites c n x) → InArms Each loops x
     arms no_arm c n loops k h = tt
     arms (arm_then (arm e l) rest) c n loops k h =
         let us : List CheckSite = check.expr_sites c n e in
@@ -174,7 +180,7 @@ module _ (m : Mode) (names : List (List ℕ)) where
         let ws : List CheckSite = check.arms_sites c n rest in
         (stmts l c n loops k (second us vs ws h), arms rest c n loops k (third us vs ws h))
 
-    case_arms : (x : PCaseArms) (c : CheckScope) (n : ℕ) (loops : Loops) → Knows c loops → AllMet (check.case_arms_sites c n x) → InCaseArms ExitLeaves loops x
+    case_arms : (x : PCaseArms) (c : CheckScope) (n : ℕ) (loops : Loops) → Knows c loops → AllMet (check.case_arms_sites c n x) → InCaseArms Each loops x
     case_arms no_case_arm c n loops k h = tt
     case_arms (case_arm_then (case_arm cs l) rest) c n loops k h =
         let us : List CheckSite = flat_map (check.choice_sites c n) cs in
@@ -182,11 +188,11 @@ module _ (m : Mode) (names : List (List ℕ)) where
         let ws : List CheckSite = check.case_arms_sites c n rest in
         (stmts l c n loops k (second us vs ws h), case_arms rest c n loops k (third us vs ws h))
 
-    of_body : (b : PBody) (c : CheckScope) (n : ℕ) (loops : Loops) → Knows c loops → AllMet (check.body_sites c n b) → InBody ExitLeaves loops b
+    of_body : (b : PBody) (c : CheckScope) (n : ℕ) (loops : Loops) → Knows c loops → AllMet (check.body_sites c n b) → InBody Each loops b
     of_body (body l hs) c n loops k h =
         (stmts l c n loops k (front (check.stmts_sites c n l) (check.handlers_sites c n hs) h), handlers hs c n loops k (back (check.stmts_sites c n l) (check.handlers_sites c n hs) h))
 
-    handlers : (hs : PHandlers) (c : CheckScope) (n : ℕ) (loops : Loops) → Knows c loops → AllMet (check.handlers_sites c n hs) → InHandlers ExitLeaves loops hs
+    handlers : (hs : PHandlers) (c : CheckScope) (n : ℕ) (loops : Loops) → Knows c loops → AllMet (check.handlers_sites c n hs) → InHandlers Each loops hs
     handlers no_handler c n loops k h = tt
     handlers (handler_then (handler ws l s) rest) c n loops k h =
         let us : List CheckSite = check.stmts_sites (check.handling c) (n + 1) l in
@@ -238,18 +244,18 @@ module _ (m : Mode) (names : List (List ℕ)) where
   decls-loops (decl_then d rest) c = decls-loops rest (check.after_decl c d) ∙ decl-loops d c
 
   -- the body of a unit that is found among declarations
-  among : (ds : PDecls) (c : CheckScope) (bodies : List ℕ) (id : NameId) → Knows c [] → AllMet (check.decls_sites c bodies ds) → InBody ExitLeaves [] (unit_among ds id).body
+  among : (ds : PDecls) (c : CheckScope) (bodies : List ℕ) (id : NameId) → Knows c [] → AllMet (check.decls_sites c bodies ds) → InBody Each [] (unit_among ds id).body
   among no_decl c bodies id k h = (tt, tt)
   among (decl_then d rest) c bodies id k h =
       by_unit (unit_of_decl d id) refl
       (among rest (check.after_decl c d) bodies id (decl-loops d c ∙ k) (back (check.decl_sites c bodies d) (check.decls_sites (check.after_decl c d) bodies rest) h))
     where
-      here : (x : PDecl) → AllMet (check.decl_sites c bodies x) → (u : Unit) → unit_of_decl x id ≡ Some u → InBody ExitLeaves [] u.body
+      here : (x : PDecl) → AllMet (check.decl_sites c bodies x) → (u : Unit) → unit_of_decl x id ≡ Some u → InBody Each [] u.body
       here (DTaskBody w objects its s) a u q = by_name (w.name.0 == id.0) q
         where
-          by_name : (b : Bool) → (if b then Some (record { in_main = false; decls = objects; body = its }) else None) ≡ Some u → InBody ExitLeaves [] u.body
+          by_name : (b : Bool) → (if b then Some (record { in_main = false; decls = objects; body = its }) else None) ≡ Some u → InBody Each [] u.body
           by_name true r =
-              subst (λ (v : Unit). InBody ExitLeaves [] v.body) (some_same r)
+              subst (λ (v : Unit). InBody Each [] v.body) (some_same r)
               (of_body its (check.after_own (check.in_body c w) objects) 1 [] (own-loops objects (check.in_body c w) ∙ k)
               (back (check.own_sites (check.in_body c w) objects) (check.body_sites (check.after_own (check.in_body c w) objects) 1 its) a))
           by_name false r = absurd (none-some u r)
@@ -263,13 +269,13 @@ module _ (m : Mode) (names : List (List ℕ)) where
       here (DPragma e s) a u q = absurd (none-some u q)
       here (DTask t s) a u q = absurd (none-some u q)
 
-      by_unit : (o : Option Unit) → unit_of_decl d id ≡ o → InBody ExitLeaves [] (unit_among rest id).body → InBody ExitLeaves [] (unwrap_or o (unit_among rest id)).body
+      by_unit : (o : Option Unit) → unit_of_decl d id ≡ o → InBody Each [] (unit_among rest id).body → InBody Each [] (unwrap_or o (unit_among rest id)).body
       by_unit None q later = later
       by_unit (Some u) q later = here d (front (check.decl_sites c bodies d) (check.decls_sites (check.after_decl c d) bodies rest) h) u q
 
 -- ---- programs
 
-module _ (p : PProgram) (m : Mode) (meets : MeetsCheckRules p m) where
+module _ (p : PProgram) (m : Mode) (meets : MeetsCheckRules p m) (Each : Loops → PStmt → Type 0) (each : AtEach m p.names Each) where
   abbrev c0 : CheckScope
   c0 = check.around_program p
 
@@ -279,19 +285,43 @@ module _ (p : PProgram) (m : Mode) (meets : MeetsCheckRules p m) where
   abbrev its_body : List CheckSite
   its_body = check.body_sites (check.after_decls c0 p.decls) 1 p.body
 
-  two : AllMet m p.names (declared ++ its_body)
-  two = front m p.names (declared ++ its_body) (check.counted_sites c0 p) (all_check_met p m meets).1
+  two : AllMet m p.names Each each (declared ++ its_body)
+  two = front m p.names Each each (declared ++ its_body) (check.counted_sites c0 p) (all_check_met p m meets).1
 
-  of_info : (o : Option TaskInfo) → InBody ExitLeaves [] (unit_of_info p o).body
+  of_info : (o : Option TaskInfo) → InBody Each [] (unit_of_info p o).body
   of_info None = (tt, tt)
-  of_info (Some info) = among m p.names p.decls c0 (check.body_names p.decls) info.unit refl (front m p.names declared its_body two)
+  of_info (Some info) = among m p.names Each each p.decls c0 (check.body_names p.decls) info.unit refl (front m p.names Each each declared its_body two)
 
-  of-unit : (numbers : Numbering) (t : ℕ) → InBody ExitLeaves [] (unit_of p numbers t).body
+  -- so it is of each statement of each unit
+  pub of-unit : (numbers : Numbering) (t : ℕ) → InBody Each [] (unit_of p numbers t).body
   of-unit numbers t = by_number (t == 0)
     where
-      by_number : (b : Bool) → InBody ExitLeaves [] (if b then record { in_main = true; decls = p.decls; body = p.body } else unit_of_info p (task_at numbers t)).body
-      by_number true = of_body m p.names p.body (check.after_decls c0 p.decls) 1 [] (decls-loops m p.names p.decls c0) (back m p.names declared its_body two)
+      by_number : (b : Bool) → InBody Each [] (if b then record { in_main = true; decls = p.decls; body = p.body } else unit_of_info p (task_at numbers t)).body
+      by_number true = of_body m p.names Each each p.body (check.after_decls c0 p.decls) 1 [] (decls-loops m p.names Each each p.decls c0) (back m p.names Each each declared its_body two)
       by_number false = of_info (task_at numbers t)
 
+-- ---- exits
+
+exit-each : (m : Mode) (names : List (List ℕ)) → AtEach m names ExitLeaves
+exit-each m names (SExit w e s) c n loops k h = exit-leaves w s c loops k h.1.0.exits
+exit-each m names (SNull s) c n loops k h = tt
+exit-each m names (SAssign t e s) c n loops k h = tt
+exit-each m names (SDelay d s) c n loops k h = tt
+exit-each m names (SRaise w s) c n loops k h = tt
+exit-each m names (SAbort cs s) c n loops k h = tt
+exit-each m names (SCall x s) c n loops k h = tt
+exit-each m names (SAccept a s) c n loops k h = tt
+exit-each m names (SWait x o s) c n loops k h = tt
+exit-each m names (SConditional x l o s) c n loops k h = tt
+exit-each m names (STimed x l d o s) c n loops k h = tt
+exit-each m names (SPut ps s) c n loops k h = tt
+exit-each m names (SPutLine ps s) c n loops k h = tt
+exit-each m names (SNewLine s) c n loops k h = tt
+exit-each m names (SGet t s) c n loops k h = tt
+exit-each m names (SIf x o s) c n loops k h = tt
+exit-each m names (SCase e x o s) c n loops k h = tt
+exit-each m names (SBlock b s) c n loops k h = tt
+exit-each m names (SLoop w x l s) c n loops k h = tt
+
 pub legal_exits_leave : LegalExitsLeave
-legal_exits_leave p m meets numbers t = of-unit p m meets numbers t
+legal_exits_leave p m meets numbers t = of-unit p m meets ExitLeaves (exit-each m p.names) numbers t
