@@ -1,5 +1,5 @@
 -- The guards of alternatives, and the test that none holds.
-use Rattle.std.proofs.Common.{◌≡◌, ℕ, ◌+◌, ◌<◌, ◌≤◌, Bool, true, false, List, [], ◌∷◌, length, map, drop, fold, get_or, Option, Some, None, is_some, option_map, Result, Ok, Err, IfOk, OnOk, refl, sym, ap, ◌∙◌, arith}
+use Rattle.std.proofs.Common.{◌≡◌, ◌==◌, ℕ, ◌+◌, ◌<◌, ◌≤◌, Bool, true, false, true≢false, List, [], ◌∷◌, length, map, drop, fold, get_or, Option, Some, None, is_some, option_map, Result, Ok, Err, IfOk, OnOk, refl, sym, ap, ◌∙◌, arith}
 use Rattle.std.proofs.lemmas.List.{drop_all}
 use Rattle.ada_tree.specs.declared.naming.Span.{Span}
 use Rattle.ada_tree.specs.declared.expressions.BinaryOp.TheVariants.{And}
@@ -121,7 +121,29 @@ pub empty-placed : (s : Span) (alts : List Alt) (old : PStmts) → length alts �
 empty-placed s [] old h = sym (in_front-nil old)
 empty-placed s (a ∷ alts) old h = absurd (omega (arith, h))
 
--- the statement goes behind others
+-- ---- that there is a test
+
+test-some : (s : Span) (x : PAlt) (rest : List PAlt) → true ≡ is_some (all_guards (alts_of (x ∷ rest))) → is_some (closed_from s None (guards_in (x ∷ rest))) ≡ true
+test-some s (alternative None what p) rest h = absurd (true≢false h)
+test-some s (alternative (Some e) what p) rest h = ap is_some (chain-fold s (not_held s e) (guards_in rest))
+
+seen-some : (test : Option Expr) → is_some test ≡ is_some (option_map plain_expr test)
+seen-some None = refl
+seen-some (Some e) = refl
+
+-- where there is an alternative and each has a guard, the place is filled
+pub test-there :
+    {A : Type 0} (s : Span) (alts : List Alt) (test : Option Expr) (done : Result A Memory) →
+    (length alts == 0) ≡ false →
+    true ≡ is_some (all_guards (alts_of (map plain_alt alts))) →
+    OnOk done (option_map plain_expr test ≡ closed_from s None (guards_in (map plain_alt alts))) →
+    OnOk done (is_some test ≡ true)
+test-there s alts test (Err e) some guarded h = tt
+test-there s [] test (Ok a) some guarded h = absurd (true≢false some)
+test-there s (x ∷ rest) test (Ok a) some guarded h = seen-some test ∙ ap is_some h ∙ test-some s (plain_alt x) (map plain_alt rest) guarded
+
+-- ---- the statement goes behind others
+
 pub test-placed :
     {A B : Type 0} (s : Span) (alts : List PAlt) (filled : Option Expr) (done : Result A Memory) (t : Result Expr Memory) (stmt : Result Stmt Memory) (r : Result B Memory) (old new : PStmts) →
     true ≡ is_some (all_guards (alts_of alts)) →

@@ -1,6 +1,6 @@
 // The test in front of a selective wait whose alternatives may all be closed.
 
-ghost use Rattle.std.specs.Prelude.{◌≡◌, [], true, IfOk, OnOk, is_some, map, option_map, None, Some};
+ghost use Rattle.std.specs.Prelude.{◌≡◌, ◌==◌, [], true, false, IfOk, OnOk, is_some, length, map, option_map, None, Some};
 ghost use Rattle.ada_tree.specs.PlainExpr.{plain_expr};
 ghost use Rattle.ada_tree.specs.PlainStmt.{absent, alts_of, arm, arm_then, no_arm, plain_alt, plain_stmt, seen, seen_maybe, SIf, SRaise};
 ghost use Rattle.ada_stmt_copy.specs.expressions.Parts.{OkWith};
@@ -82,7 +82,8 @@ fn raise_if(alloc: Global, test: Result<Expr, Memory>, span: Span) -> Result<Stm
 
 // The test goes behind other statements, where there are alternatives and each has a guard.
 fn push_test(alloc: Global, alts: &[Alt], span: Span, out: &mut Vec<Stmt>) -> Result<(), Memory>
-    requires { is_some (all_guards (alts_of (map plain_alt alts.now))) ≡ true }
+    requires some { (length alts.now == 0) ≡ false }
+    requires guarded { is_some (all_guards (alts_of (map plain_alt alts.now))) ≡ true }
     ensures { OnOk result (seen out.new.items ≡ in_front (seen out.old.items) (closed_test span absent (all_guards (alts_of (map plain_alt alts.now))))) }
 {
     let mut test = None;

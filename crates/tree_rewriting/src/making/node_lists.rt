@@ -1,6 +1,6 @@
 // Lists of nodes: of one, with one more, and moved from where they stand.
 
-ghost use Rattle.std.specs.Prelude.{◌≡◌, ◌++◌, ◌∷◌, [], None, Some, IfOk, OnOk};
+ghost use Rattle.std.specs.Prelude.{◌≡◌, ◌++◌, ◌∷◌, [], true, None, Some, IfOk, OnOk, is_some};
 ghost use Rattle.ada_tree.specs.PlainStmt.{plain_body};
 ghost use Rattle.ada_stmt_copy.specs.expressions.Parts.{OkWith};
 
@@ -268,21 +268,23 @@ pub fn put_expr(place: &mut Option<Expr>, part: Result<Expr, Memory>) -> Result<
     put_there(place, part)
 }
 
-// What stands in a place, which is to be filled where all went well.
+// What stands in a place, which is filled where all went well.
 fn keep_there<T: Drop>(place: Option<T>, done: Result<(), Memory>) -> Result<T, Memory>
+    requires { OnOk done (is_some place ≡ true) }
     ensures { IfOk result (λ made. OkWith done (λ _. place ≡ Some made)) }
 {
     match done {
         Ok(()) => match place {
             Some(part) => Ok(part),
-            None => Err(Memory),
+            None => unreachable!(),
         },
         Err(e) => Err(e),
     }
 }
 
-/// The expression that was put into a place, where that went well. Of an empty place there is none.
+/// The expression that was put into a place, where that went well, which asks that one stands there then.
 pub fn keep_expr(place: Option<Expr>, done: Result<(), Memory>) -> Result<Expr, Memory>
+    requires { OnOk done (is_some place ≡ true) }
     ensures { IfOk result (λ made. OkWith done (λ _. place ≡ Some made)) }
 {
     keep_there(place, done)
