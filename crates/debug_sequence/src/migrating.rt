@@ -8,7 +8,7 @@ ghost use Rattle.seq_file.specs.Lists.{listed, most_listed, list_count};
 ghost use Rattle.debug_outcome.specs.Coming.{Comes, Never, stop_by};
 ghost use Rattle.debug_outcome.specs.Outcomes.{writes};
 ghost use Rattle.debug_sequence.specs.MigrateOutcomes.{AreSplit, Migrates};
-ghost use Rattle.debug_sequence.specs.inner.Failing.{HasLine, refusal_of_split};
+ghost use Rattle.debug_sequence.specs.inner.Failing.{IsOfSplitting, refusal_of_split};
 
 use crate::gathering::{Text, text_of_events, text_of_lists};
 use crate::reading::read_sequence;
@@ -122,9 +122,9 @@ fn are_too_many(lists: &[Vec<Event>]) -> bool
     false
 }
 
-// Why a command stops where events are not split. Splitting answers no other error.
+// Why a command stops where events are not split.
 fn split_failure<'w>(error: OrderError) -> Stop<'w>
-    requires { HasLine error }
+    requires { IsOfSplitting error }
     ensures { result ≡ stop_by (refusal_of_split error) }
 {
     match error {
@@ -132,6 +132,7 @@ fn split_failure<'w>(error: OrderError) -> Stop<'w>
             fault: SequenceFault::BadOrder,
             line: at + 1,
         }),
-        OrderError::NoOrder { .. } | OrderError::Memory => Stop::Memory,
+        OrderError::NoOrder { .. } => unreachable!(),
+        OrderError::Memory => Stop::Memory,
     }
 }

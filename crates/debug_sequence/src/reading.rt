@@ -8,7 +8,7 @@ ghost use Rattle.seq_file.specs.Lists.{list_count};
 ghost use Rattle.debug_outcome.specs.Coming.{Stops, stop_by};
 ghost use Rattle.debug_outcome.specs.sequences.BadSequences.{IsBadSequence};
 ghost use Rattle.debug_sequence.specs.Sequences.{AreNotJoined, AreRefusedLists, IsRefusedSequence, ReadsAs, ReadsAsLists};
-ghost use Rattle.debug_sequence.specs.inner.Failing.{refusal_of_join};
+ghost use Rattle.debug_sequence.specs.inner.Failing.{IsOfJoining, refusal_of_join};
 ghost use Rattle.debug_sequence.specs.inner.Joining.{IsShortOrder};
 
 use ada_tree::Names;
@@ -107,12 +107,14 @@ fn join_few<'w>(alloc: Global, lists: &TaskLists, numbers: &Numbers) -> Result<V
     }
 }
 
-// Why a command stops where lists are not joined. Joining answers no other error.
+// Why a command stops where lists are not joined.
 fn join_failure<'w>(error: OrderError) -> Stop<'w>
+    requires { IsOfJoining error }
     ensures { result ≡ stop_by (refusal_of_join error) }
 {
     match error {
         OrderError::NoOrder { task } => Stop::Refused(Refusal::NoOrder { task }),
-        OrderError::NotAdmitted { .. } | OrderError::Memory => Stop::Memory,
+        OrderError::NotAdmitted { .. } => unreachable!(),
+        OrderError::Memory => Stop::Memory,
     }
 }

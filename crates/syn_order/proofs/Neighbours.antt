@@ -1,5 +1,5 @@
 -- Neighbours in a list of events.
-use Rattle.std.proofs.Common.{◌≡◌, ℕ, zero, suc, ◌+◌, ◌-◌, ◌<◌, ◌≤◌, Bool, true, false, ◌⊎◌, inl, inr, List, [], ◌∷◌, length, get_or, take, refl, sym, ap, ◌∙◌, subst, ⊎_elim, true≢false, arith}
+use Rattle.std.proofs.Common.{◌≡◌, ℕ, zero, suc, ◌+◌, ◌-◌, ◌<◌, ◌≤◌, Bool, true, false, ◌⊎◌, inl, inr, List, [], ◌∷◌, length, get_or, take, refl, sym, ap, ◌∙◌, subst, true≢false, arith}
 use Rattle.std.specs.Prelude.{◌↔◌, IsTrue, IsErrAnd, IfErr}
 use Rattle.std.proofs.Common.{Result, Ok, Err}
 use Rattle.std.proofs.lemmas.Bool.{cases_order}
@@ -70,12 +70,6 @@ pub refused_error : (owner : ℕ → ℕ) (n : ℕ) (events : List Event) (i : �
     AreAdmitted owner (known_at_start n) (take i events) → at ≡ i + 1 → error ≡ NotAdmitted at → admits owner k (get_or events i d) ≡ false → IsSplitError owner n events error
 refused_error owner n events i d k error at l q a p e h =
     subst (IsSplitError owner n events) (sym (e ∙ ap NotAdmitted p)) (refused_there owner n events i d l k q a h)
-
--- the same, or want of memory
-pub refused_or : (owner : ℕ → ℕ) (n : ℕ) (events : List Event) (i : ℕ) (d : Event) (k : Known) (error : OrderError) (at : ℕ) → i < length events → k ≡ known owner n (take i events) →
-    AreAdmitted owner (known_at_start n) (take i events) → at ≡ i + 1 → (error ≡ Memory) ⊎ (error ≡ NotAdmitted at) → admits owner k (get_or events i d) ≡ false → IsSplitError owner n events error
-refused_or owner n events i d k error at l q a p o h =
-    ⊎_elim (λ m. subst (IsSplitError owner n events) (sym m) tt) (λ m. refused_error owner n events i d k error at l q a p m h) o
 
 -- ---- the last two events
 

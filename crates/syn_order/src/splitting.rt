@@ -1,9 +1,8 @@
 // Splitting a sequence by tasks.
 
-ghost use Rattle.std.specs.Prelude.{◌≡◌, ◌⊎◌, ◌<◌, ◌≤◌, ◌++◌, ℕ, length, map, replicate, IfOk, IfErr, OnOk};
+ghost use Rattle.std.specs.Prelude.{◌≡◌, ◌<◌, ◌^◌, ◌++◌, ℕ, length, map, replicate, IfOk, IfErr, OnOk};
 ghost use Rattle.event_machine.specs.Soundness.{times};
 ghost use Rattle.syn_event.specs.Numbering.{owner_of};
-ghost use Rattle.syn_order.specs.declared.errors.OrderError.TheVariants.{NotAdmitted, Memory as OutOfMemory};
 ghost use Rattle.syn_order.specs.Laws.{IsSource};
 ghost use Rattle.syn_order.specs.Refusals.{IsSplitError};
 ghost use Rattle.syn_order.specs.inner.Lists.{at_place};
@@ -20,33 +19,24 @@ use syn_event::Numbers;
 /// The list of each task: the events that touch it, each by what is known before it, in order. There is one list for each task of the numbers.
 /// The error is `NotAdmitted` at the first event that is not admitted, or want of memory.
 pub fn split(alloc: Global, events: &[Event], numbers: &Numbers) -> Result<TaskLists, OrderError>
+    requires few { length events.now < 2 ^ 32 }
     ensures lists { IfOk result (λ lists. IsSource (owner_of numbers.now) (length numbers.now.tasks) lists events.now) }
     ensures refused { IfErr result (λ error. IsSplitError (owner_of numbers.now) (length numbers.now.tasks) events.now error) }
 {
     let mut followed = Followed::new(alloc, numbers)?;
     let mut lists = no_events(alloc, numbers.tasks.as_slice().len())?;
     let mut touched = Vec::new(alloc);
-    let mut at: u64 = 0;
+    let mut at: u32 = 0;
     for e in events {
         at += 1;
         if !followed.progress.admits(e, numbers) {
-            return Err(not_admitted(at));
+            return Err(OrderError::NotAdmitted { at });
         }
         followed.put_touched(e, numbers, &mut touched)?;
         put_for_each(&mut lists, &touched, *e)?;
         followed.advance(e, numbers)?;
     }
     Ok(TaskLists { lists })
-}
-
-// The refusal at this place; a place that has no such number is as good as want of memory.
-fn not_admitted(at: u64) -> OrderError
-    ensures { (result ≡ OutOfMemory) ⊎ (result ≡ NotAdmitted at) }
-{
-    match u32::try_from(at) {
-        Ok(at) => OrderError::NotAdmitted { at },
-        Err(_) => OrderError::Memory,
-    }
 }
 
 // The event goes behind those of each of the tasks.

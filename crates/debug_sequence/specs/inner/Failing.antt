@@ -1,4 +1,4 @@
--- The refusals for the errors of joining and of splitting; none for want of memory, and for an error that does not come there.
+-- The refusals for the errors of joining and of splitting, and which of them come there; none for want of memory, and for an error that does not come there.
 use Rattle.std.specs.Prelude.{◌+◌, ◌-◌, ◌^◌, ◌<◌, ⊤, Option, Some, None}
 use Rattle.syn_order.specs.declared.errors.OrderError.{OrderError}
 use Rattle.syn_order.specs.declared.errors.OrderError.TheVariants as error
@@ -18,8 +18,14 @@ refusal_of_split (error.NotAdmitted place) = Some (BadSequence BadOrder (place +
 refusal_of_split (error.NoOrder task) = None
 refusal_of_split error.Memory = None
 
--- the line of an event that is not admitted has a number of 32 bits
-abbrev pub HasLine : OrderError → Type 0
-HasLine (error.NotAdmitted place) = place < 2 ^ 32 - 1
-HasLine (error.NoOrder task) = ⊤
-HasLine error.Memory = ⊤
+-- the error is one of joining
+abbrev pub IsOfJoining : OrderError → Type 0
+IsOfJoining (error.NoOrder task) = ⊤
+IsOfJoining (error.NotAdmitted place) = ⊥
+IsOfJoining error.Memory = ⊤
+
+-- the error is one of splitting, and the line of an event that is not admitted has a number of 32 bits
+abbrev pub IsOfSplitting : OrderError → Type 0
+IsOfSplitting (error.NotAdmitted place) = place < 2 ^ 32 - 1
+IsOfSplitting (error.NoOrder task) = ⊥
+IsOfSplitting error.Memory = ⊤

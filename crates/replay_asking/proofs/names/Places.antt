@@ -1,12 +1,13 @@
 -- Lemmas on looking for a text: where it stands among names, and what a list begins with.
-use Rattle.std.proofs.Common.{◌≡◌, ℕ, zero, suc, ◌+◌, ◌<◌, ◌≤◌, Bool, true, false, cond, List, [], ◌∷◌, ◌++◌, length, take, get_or, map, fold, Some, None, slice_get, position, unwrap_or, nat_lt, refl, sym, ap, ◌∙◌, arith}
+use Rattle.std.proofs.Common.{◌≡◌, ℕ, zero, suc, ◌+◌, ◌<◌, ◌≤◌, Bool, true, false, cond, List, [], ◌∷◌, ◌++◌, length, take, get_or, map, fold, Some, None, slice_get, position, unwrap_or, nat_lt, Result, Ok, Err, OnOk, refl, sym, ap, ◌∙◌, arith}
 use Rattle.std.specs.List.{list_any, position_or_len}
 use Rattle.std.specs.Str.{bytes_eq}
-use Rattle.std.proofs.lemmas.List.{length-take, take-append-le, take_more, map-append}
+use Rattle.std.proofs.lemmas.List.{length-take, take-append-le, take_all, take_more, map-append}
 use Rattle.std.proofs.lemmas.List.Sums.{position_or_len_is, fold-append}
 use Rattle.std.proofs.lemmas.Option.{slice_get_within, slice_get-get_or, get_or_from_slice_get}
 use Rattle.std.proofs.lemmas.Slice.Eq.{bytes_eq-Decides}
 use Rattle.std.proofs.lemmas.Bool.Decides.{nat_tests}
+use Rattle.ada_tree.specs.declared.shortage.Memory.{Memory}
 use Rattle.ada_tree.specs.NameList.{AreNames, interned}
 use Rattle.ada_tree.proofs.Interning.{interned-there, interned-new}
 
@@ -108,3 +109,14 @@ mapped_more h xs i x ys at so_far =
     let within = slice_get_within xs i x at in
     ap (λ us. us ++ h x ∷ []) so_far ∙
     sym (ap (map h) (take_more xs i x within) ∙ map-append h (take i xs) (get_or xs i x ∷ []) ∙ ap (λ y. map h (take i xs) ++ h y ∷ []) (get_or_from_slice_get xs i x x at))
+
+-- the last element of a list that goes through a function, where that step went well
+pub mapped_last :
+    {X Y : Type 0} (h : X → Y) (xs : List X) (i : ℕ) (x : X) (ys new : List Y) (done : Result (Unit {0}) Memory) →
+    length xs ≤ i + 1 →
+    slice_get xs i ≡ Some x →
+    ys ≡ map h (take i xs) →
+    OnOk done (new ≡ ys ++ h x ∷ []) →
+    OnOk done (new ≡ map h xs)
+mapped_last h xs i x ys new (Err e) few at so_far put = tt
+mapped_last h xs i x ys new (Ok u) few at so_far put = put ∙ mapped_more h xs i x ys at so_far ∙ ap (map h) (take_all (i + 1) xs few)

@@ -1,6 +1,6 @@
 // The doubles of entries: their texts, and their ids by those of the entries.
 
-ghost use Rattle.std.specs.Prelude.{◌≡◌, map, string_bytes, length, take, IfOk, OnOk};
+ghost use Rattle.std.specs.Prelude.{◌≡◌, ◌++◌, [], ◌∷◌, map, string_bytes, length, take, IfOk, OnOk};
 ghost use Rattle.syn_event.specs.DeclaredTasks.{text_of};
 ghost use Rattle.normal_model.specs.Names.{id_of};
 ghost use Rattle.replay_model.specs.Names.{double_text};
@@ -43,6 +43,41 @@ pub fn find_double(
     find(names, beside, double.as_str())
 }
 
+// The id of the double of a text goes behind others.
+fn put_double(
+    alloc: Global,
+    text: &str,
+    names: &Names,
+    beside: &mut Names,
+    ids: &mut Vec<NameId>,
+) -> Result<(), Memory>
+    requires { take (length names.now) beside.old ≡ names.now }
+    ensures ids { OnOk result (ids.new.items ≡ ids.old.items ++ id_of names.now (double_text text.now) ∷ []) }
+    ensures beside { OnOk result (take (length names.now) beside.new ≡ names.now) }
+{
+    let id = find_double(alloc, text, names, beside)?;
+    Ok(ids.push(id)?)
+}
+
+// The id of the double of the last name that there can be, if it is there, goes behind those of the others.
+fn put_last_double(
+    alloc: Global,
+    originals: &Names,
+    names: &Names,
+    beside: &mut Names,
+    ids: &mut Vec<NameId>,
+) -> Result<(), Memory>
+    requires among { take (length names.now) beside.old ≡ names.now }
+    requires others { ids.old.items ≡ map (λ t. id_of names.now (double_text t)) (take 4294967295 originals.now) }
+    ensures ids { OnOk result (ids.new.items ≡ map (λ t. id_of names.now (double_text t)) originals.now) }
+    ensures beside { OnOk result (take (length names.now) beside.new ≡ names.now) }
+{
+    match originals.text(NameId(u32::MAX)) {
+        Some(text) => put_double(alloc, text, names, beside, ids),
+        None => Ok(()),
+    }
+}
+
 /// The ids that the doubles of all of `originals` have among names, in the order of the originals. `beside` is as for `find`.
 pub fn find_doubles(
     alloc: Global,
@@ -57,12 +92,10 @@ pub fn find_doubles(
     let mut ids = Vec::new(alloc);
     for i in 0..u32::MAX {
         match originals.text(NameId(i)) {
-            Some(text) => {
-                let id = find_double(alloc, text, names, beside)?;
-                ids.push(id)?;
-            }
+            Some(text) => put_double(alloc, text, names, beside, &mut ids)?,
             None => return Ok(ids),
         }
     }
-    Err(Memory)
+    put_last_double(alloc, originals, names, beside, &mut ids)?;
+    Ok(ids)
 }

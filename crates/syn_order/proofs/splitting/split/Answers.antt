@@ -5,7 +5,8 @@ use Rattle.syn_order.specs.inner.Lists.{at_place}
 use Rattle.syn_order.proofs.Placing.{empty_at}
 use Rattle.syn_order.proofs.Following.{admitted_further, known_further, known_tasks}
 use Rattle.syn_order.proofs.Dealing.{split_further, source_of}
-use Rattle.syn_order.proofs.Neighbours.{refused_or}
+use Rattle.syn_order.specs.declared.errors.OrderError.TheVariants.{NotAdmitted}
+use Rattle.syn_order.proofs.Neighbours.{refused_error}
 use Rattle.syn_order.proofs.splitting.split.Goals as goal
 
 pub loop-e-init : goal.loop-e-init
@@ -44,8 +45,8 @@ put_touched-requires-clause-tasks c =
 pub returns-then-not-admits-clause-refused : goal.returns-then-not-admits-clause-refused
 returns-then-not-admits-clause-refused c =
     let h = c.loop-e.invariant in
-    refused_or (owner_of c.args.numbers.now) (length c.args.numbers.now.tasks) c.args.events.now c.loop-e.e-index _ c.loop-e.followed.progress c.not_admitted.result _ c.loop-e-test.true
-    h.is_known h.admitted (ap (λ m. m + 1) h.counted) c.not_admitted.ensures (sym c.admits.ensures ∙ c.if-not-admits.true)
+    refused_error (owner_of c.args.numbers.now) (length c.args.numbers.now.tasks) c.args.events.now c.loop-e.e-index _ c.loop-e.followed.progress (NotAdmitted (c.loop-e.at + 1)) (c.loop-e.at + 1) c.loop-e-test.true
+    h.is_known h.admitted (ap (λ m. m + 1) h.counted) refl (sym c.admits.ensures ∙ c.if-not-admits.true)
 
 pub returns-clause-lists : goal.returns-clause-lists
 returns-clause-lists c =

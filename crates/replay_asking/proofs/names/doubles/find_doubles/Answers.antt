@@ -1,12 +1,17 @@
-use Rattle.std.proofs.Common.{◌++◌, [], ◌∷◌, ap, sym, ◌∙◌}
+use Rattle.std.proofs.Common.{◌≡◌, map, take, sym, ap, ◌∙◌, arith}
+use Rattle.normal_model.specs.Names.{id_of}
+use Rattle.replay_model.specs.Names.{double_text}
 use Rattle.replay_asking.proofs.names.Places.{mapped_more}
 use Rattle.replay_asking.proofs.names.doubles.find_doubles.Goals as goal
 
 pub loop-i-preserved : goal.loop-i-preserved
 loop-i-preserved c = record {
-  ids =
-      c.in_ok-push-in-Some.ensures.items
-      ∙ ap (λ n. c.loop-i.ids.items ++ n ∷ []) c.in_ok-id-in-Some.ensures.id
-      ∙ mapped_more _ c.args.originals.now c.loop-i.i _ _ (sym c.in-Some.ensures.text) c.loop-i.invariant.ids;
-  beside = c.in_ok-id-in-Some.ensures.beside;
+  ids = c.in_ok-put_double-in-Some.ensures.ids ∙ mapped_more _ c.args.originals.now c.loop-i.i _ _ (sym c.in-Some.ensures.text) c.loop-i.invariant.ids;
+  beside = c.in_ok-put_double-in-Some.ensures.beside;
 }
+
+pub put_last_double-requires-clause-others : goal.put_last_double-requires-clause-others
+put_last_double-requires-clause-others c =
+    let last = c.loop-i-test.false in
+    let end = c.loop-i.auto.i-end in
+    c.loop-i.invariant.ids ∙ ap (λ n. map (λ t. id_of c.args.names.now (double_text t)) (take n c.args.originals.now)) (omega (arith, last, end))
