@@ -2,7 +2,6 @@ pub mod Names
 pub mod Scopes
 pub mod Stays
 pub mod Alike
-pub mod Plain
 pub mod Waits
 pub mod Tasks
 pub mod Bodies

@@ -1,5 +1,3 @@
-pub mod Demands
-pub mod Stays
 pub mod Lists
 pub mod Notes
 pub mod Calls

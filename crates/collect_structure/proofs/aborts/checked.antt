@@ -2,7 +2,6 @@ pub mod Names
 pub mod Scopes
 pub mod Stays
 pub mod Alike
-pub mod Objects
 pub mod Waits
 pub mod Asked
 pub mod Bodies

@@ -43,10 +43,10 @@ use Rattle.collect_structure.specs.Names.{added_id, kept_names}
 use Rattle.collect_structure.specs.checked.Around.{IsTelling}
 use Rattle.collect_structure.specs.checked.Checkable.{IsOtherThanTruths, HasFewFormals}
 use Rattle.collect_structure.proofs.asked.Walk.{main-keeps, task-keeps}
-use Rattle.collect_structure.proofs.checked.Stays.{IsFormMet, IsTextMet, UsesStay}
+use Rattle.collect_structure.proofs.checked.Stays.{IsFormMet, IsTextMet, UsesStay, stay-out}
 use Rattle.collect_structure.proofs.checked.Asked.{H, R, a, b, pieces}
 use Rattle.collect_structure.proofs.checked.Alike.{AreAlike, new-alike}
-use Rattle.collect_structure.proofs.checked.Plain.{object-stays, plain-decl}
+use Rattle.replay_structure.proofs.checked.Plain.{object-stays, plain-decl}
 use Rattle.collect_structure.proofs.checked.Tasks.{added-declared, task-met}
 use Rattle.collect_structure.proofs.checked.Bodies.{frame-object, object-alike, use-object, answer_words, part_words, answer-new, part-new, AreBehindTasks, body-around}
 use Rattle.collect_structure.proofs.checked.Before.{n, AreBefore, same-there, plain-before, answer-before, part-before, task-before, uses-there}
@@ -118,7 +118,7 @@ module _ (g : Setting) (c0 d0 : CheckScope) (own : c0.own ≡ None) (own' : d0.o
   then-along x y c d xs ys m h = record { met = (m, h.met); behind = h.behind }
 
   decl-met : (x : PDecl) (c d : CheckScope) → IsPlain x → IsKept x → IsSame x → Before c d → AllByRecursion (IsFormMet q) (check.decl_sites c bodies x) → AllByRecursion (IsTextMet q) (check.decl_sites d bodies' x)
-  decl-met x c d p e t h m = plain-decl q c d (uses-there q c0 d0 own own' c d h) bodies bodies' x p e (same-there q c0 d0 x c d h t) m
+  decl-met x c d p e t h m = plain-decl (stay-out q c d (uses-there q c0 d0 own own' c d h)) bodies bodies' x p e (same-there q c0 d0 x c d h t) m
 
   pub plain-along : (xs : List PDecl) (c d : CheckScope) → AllByRecursion IsPlain xs → AllByRecursion IsKept xs → AllByRecursion IsSingle xs → AllByRecursion IsOtherThanTruths xs → AllByRecursion IsSame xs → Before c d → AllAlong (IsFormMet q) bodies c xs → HasAlong c d xs xs
   plain-along [] c d p e s o t h m = record { met = tt; behind = h }
@@ -226,7 +226,7 @@ module _ (g : Setting) where
 
   object-met : (x : PDecl) (c0 d0 c d : CheckScope) → EveryDecl (kept_names p) x → IsSameObject c0.types d0.types x → AreInside c0 d0 c d → AllByRecursion M (check.own_object_sites c x) → AllByRecursion M' (check.own_object_sites d x)
   object-met (DObject ws constant x i s) c0 d0 c d e t h m =
-      object-stays p c d (inside-use c0 d0 c d h) ws constant x i s
+      object-stays (stay-out p c d (inside-use c0 d0 c d h)) ws constant x i s
       (subst (λ T. IsSameObject T d.types (DObject ws constant x i s)) (sym h.left.types) (subst (λ U. IsSameObject c0.types U (DObject ws constant x i s)) (sym h.right.types) t)) e m
   object-met (DTask x s) c0 d0 c d e t h m = tt
   object-met (DTaskBody w objects its s) c0 d0 c d e t h m = tt

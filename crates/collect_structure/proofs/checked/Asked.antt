@@ -38,7 +38,8 @@ use Rattle.collect_structure.specs.Names.{added_id, kept_names}
 use Rattle.collect_structure.specs.asked.Pieces.{Pieces}
 use Rattle.collect_structure.specs.checked.Around.{IsTelling}
 use Rattle.collect_structure.proofs.checked.Scopes.{accept-around, loop-around, handler-around}
-use Rattle.collect_structure.proofs.checked.Stays.{IsFormMet, IsTextMet, uses-stay, expr-stays, choices-stay, loop-stays, callee-stays, args-stay, head-stays, plain-stays}
+use Rattle.normal_laws.proofs.structure.checked.Parts.{expr-stays, choices-stay, loop-stays, args-stay, plain-stays}
+use Rattle.collect_structure.proofs.checked.Stays.{IsFormMet, IsTextMet, uses-stay, callee-stays, head-stays, stay, stay-in}
 use Rattle.collect_structure.proofs.checked.Tasks.{added-declared}
 use Rattle.collect_structure.proofs.checked.Waits.{form-kept, places-kept, IsAgreed, accepts-kept}
 
@@ -145,7 +146,7 @@ module _ (g : Setting) (task : ℕ) where
       where
         first : (es : List PExpr) → AllByRecursion (EveryExpr r k) es → AllByRecursion (IsFormMet q) (check.exprs_sites c k es) → IfSome (first_expr es) (λ y. At' (check.expr_sites d m y))
         first [] f j = tt
-        first (y ∷ ys) f j = expr-stays q c d (uses-stay q c d rel) k m y le f.0 (all_front (IsFormMet q) (check.expr_sites c k y) (check.exprs_sites c k ys) j)
+        first (y ∷ ys) f j = expr-stays (stay q c d (uses-stay q c d rel)) k m y le f.0 (all_front (IsFormMet q) (check.expr_sites c k y) (check.exprs_sites c k ys) j)
 
         by_family : (f : Bool) → IfSome (lists_in f args).index (λ y. At' (check.expr_sites d m y))
         by_family false = tt
@@ -154,12 +155,12 @@ module _ (g : Setting) (task : ℕ) where
     -- an index, wherever it stands
     index-met : (k : ℕ) (o : Option PExpr) → IfSome o (EveryExpr r k) → AllByRecursion (IsFormMet q) (check.if_there (check.expr_sites c k) o) → (m : ℕ) → m + 100 ≤ k + 300 → IfSome o (λ y. At' (check.expr_sites d m y))
     index-met k None f i m le = tt
-    index-met k (Some y) f i m le = expr-stays q c d (uses-stay q c d rel) k m y le f i
+    index-met k (Some y) f i m le = expr-stays (stay q c d (uses-stay q c d rel)) k m y le f i
 
     telling-met : (k n : ℕ) (s : Span) (f : Bool) (o : Option PArgs) → n ≤ 300 → n + 100 ≤ k + 300 → IfSome o (EveryArgs r k) → AllByRecursion (IsFormMet q) (check.if_there (check.args_sites c k) o) → At' (check.args_sites d n (args_with f (own_number x s) o))
     telling-met k n s true None le few h i = (deep n s le, tt)
     telling-met k n s true (Some args) le few h i =
-        let kept : At' (check.args_sites d n args) = args-stay q c d (uses-stay q c d rel) k n args few h i in
+        let kept : At' (check.args_sites d n args) = args-stay (stay q c d (uses-stay q c d rel)) k n args few h i in
         all_joined (IsTextMet q) (check.exprs_sites d n args.first) _ (all_front (IsTextMet q) (check.exprs_sites d n args.first) (check.if_there (check.exprs_sites d n) args.second) kept)
         (deep n s le, behind args.second (all_back (IsTextMet q) (check.exprs_sites d n args.first) (check.if_there (check.exprs_sites d n) args.second) kept))
       where
@@ -167,7 +168,7 @@ module _ (g : Setting) (task : ℕ) where
         behind None j = tt
         behind (Some es) j = j
     telling-met k n s false None le few h i = (deep n s le, tt)
-    telling-met k n s false (Some args) le few h i = (deep n s le, args-stay q c d (uses-stay q c d rel) k n args few h i)
+    telling-met k n s false (Some args) le few h i = (deep n s le, args-stay (stay q c d (uses-stay q c d rel)) k n args few h i)
 
   -- ---- accepts
 
@@ -234,11 +235,11 @@ module _ (g : Setting) (task : ℕ) where
     many = λ n h. tt;
     some = λ n. tt;
     duration = λ n h. tt;
-    plain = λ c d k n y p rel h le. let m : k ≤ 50 = h.1.1 in plain-stays q c.1.0 d rel k n y p (omega (arith, m, le)) h.0 h.1.0;
-    condition = λ c d k n e rel h le. let m : k ≤ 50 = h.1.1 in expr-stays q c.1.0 d (uses-stay q c.1.0 d rel) k n e (omega (arith, m, le)) h.0 h.1.0;
-    selector = λ c d k n e xs others s rel h le. let m : k ≤ 50 = h.1.1 in expr-stays q c.1.0 d (uses-stay q c.1.0 d rel) k n e (omega (arith, m, le)) h.0 h.1.0;
-    choices = λ c d k n e xs rel h le. let m : k ≤ 50 = h.1.1 in choices-stay q c.1.0 d (uses-stay q c.1.0 d rel) k n xs (omega (arith, m, le)) (recursion_from_All (EveryChoice r k) xs h.0.1) h.1.0;
-    loop = λ c d k n w y rel h le. let m : k ≤ 50 = h.1.1 in loop-stays q c.1.0 d rel k n w y (omega (arith, m, le)) h.0.0 h.0.1 h.1.0;
+    plain = λ c d k n y p rel h le. let m : k ≤ 50 = h.1.1 in plain-stays (stay-in q c.1.0 d rel) k n y p (omega (arith, m, le)) h.0 h.1.0;
+    condition = λ c d k n e rel h le. let m : k ≤ 50 = h.1.1 in expr-stays (stay q c.1.0 d (uses-stay q c.1.0 d rel)) k n e (omega (arith, m, le)) h.0 h.1.0;
+    selector = λ c d k n e xs others s rel h le. let m : k ≤ 50 = h.1.1 in expr-stays (stay q c.1.0 d (uses-stay q c.1.0 d rel)) k n e (omega (arith, m, le)) h.0 h.1.0;
+    choices = λ c d k n e xs rel h le. let m : k ≤ 50 = h.1.1 in choices-stay (stay q c.1.0 d (uses-stay q c.1.0 d rel)) k n xs (omega (arith, m, le)) (recursion_from_All (EveryChoice r k) xs h.0.1) h.1.0;
+    loop = λ c d k n w y rel h le. let m : k ≤ 50 = h.1.1 in loop-stays (stay q c.1.0 d (uses-stay q c.1.0 d rel)) k n w y (omega (arith, m, le)) h.0.0 h.0.1 h.1.0;
     looping = λ c d k w y rel h. loop-around q c.1.0 d w y rel;
     callee = λ c d k j n y rel near under h le. let m : j ≤ 50 = h.1.1 in callee-stays q c.1.0 d rel j n y (omega (arith, m, le)) h.0 h.1.0;
     aborts = λ c d k n xs rel h le. no-order d xs h.1.1;

@@ -23,8 +23,8 @@ use Rattle.collect_model.specs.Recording.{note_formals, recorder_declared}
 use Rattle.collect_structure.specs.Names.{added_id, kept_names}
 use Rattle.collect_structure.specs.checked.Checkable.{HasFewFormals}
 use Rattle.collect_structure.proofs.checked.Names.{added-text}
-use Rattle.collect_structure.proofs.checked.Stays.{IsFormMet, IsTextMet, UsesStay, name-stays}
-use Rattle.collect_structure.proofs.checked.Plain.{family-stays, formals-there, priorities-stay}
+use Rattle.collect_structure.proofs.checked.Stays.{IsFormMet, IsTextMet, UsesStay, name-stays, stay-out}
+use Rattle.replay_structure.proofs.checked.Plain.{family-stays, formals-there, priorities-stay}
 
 module _ (q : PProgram) (d : CheckScope) where
   abbrev M' : CheckSite → Type 0
@@ -104,8 +104,8 @@ module _ (q : PProgram) (c d : CheckScope) (use_stays : UsesStay q c d) where
       let spans : List Span = map (λ (w : Word). w.span) (check.formal_names e.formals) in
       let long : length spans ≡ length (check.formal_names e.formals) = spans-long (check.formal_names e.formals) in
       all_three (IsTextMet q) (check.if_there (check.family_sites d) e.family) (check.names_sites d (check.formal_names (entry_telling (added_in (collect_names q)) e).formals)) (check.numbered d Formals 0 (e.name.span ∷ spans))
-      (family-stays q c d use_stays e.family t h.2 (all_first M family formals (check.numbered c Formals 0 spans) m))
-      (added-declared q d caller_text e.name.span refl (omega arith), formals-there q c d use_stays e.formals h.3 (all_second M family formals (check.numbered c Formals 0 spans) m))
+      (family-stays (stay-out q c d use_stays) e.family t h.2 (all_first M family formals (check.numbered c Formals 0 spans) m))
+      (added-declared q d caller_text e.name.span refl (omega arith), formals-there (stay-out q c d use_stays) e.formals h.3 (all_second M family formals (check.numbered c Formals 0 spans) m))
       (formals-counted q d 0 (e.name.span ∷ spans) (omega (arith, few, long)))
 
   entries-met : (es : List PEntry) → AllByRecursion (EveryEntry r) es → AllByRecursion (IsSameEntry c.types d.types) es → AllByRecursion HasFewFormals es → AllByRecursion (λ e. AllByRecursion M (check.entry_sites c e)) es →
@@ -126,6 +126,6 @@ module _ (q : PProgram) (c d : CheckScope) (use_stays : UsesStay q c d) where
           name-stays q c d t.name h.1.0 m.1.0,
           all_joined (IsTextMet q) (flat_map (check.entry_sites d) told) (flat_map (λ p. check.expr_sites d 2 p.value) t.priorities)
               (all_flat (IsTextMet q) (check.entry_sites d) told (entries-met t.entries every same few each))
-              (priorities-stay q c d use_stays t.priorities (recursion_from_All (EveryPriority r) t.priorities h.1.2) (all_back M (flat_map (check.entry_sites c) t.entries) priorities m.1.1)),
+              (priorities-stay (stay-out q c d use_stays) t.priorities (recursion_from_All (EveryPriority r) t.priorities h.1.2) (all_back M (flat_map (check.entry_sites c) t.entries) priorities m.1.1)),
         ),
       )

@@ -18,7 +18,7 @@ use Rattle.task_laws.specs.legal.alike_scopes.Laws.{IsMetBut}
 use Rattle.normal_laws.proofs.structure.typed.Declared.{SameInit, both_values, both_arrays, both_free, IsOldInit}
 use Rattle.normal_laws.proofs.structure.typed.Variables.{AllMetBut, words-met}
 use Rattle.collect_structure.proofs.typed.Typed.{same}
-use Rattle.collect_structure.proofs.typed.Stays.{stays, expr-stays, static-stays, IsNoTaskThere, subind-stays, drange-stays}
+use Rattle.normal_laws.proofs.structure.typed.Stays.{stays, expr-stays, static-stays, IsNoTaskThere, subind-stays, drange-stays}
 
 module _ (own : ℕ → Bool) (c d : Scope) (names : SameNames own c d) (main : c.in_main ≡ d.in_main) where
   -- ---- initial values

@@ -17,13 +17,12 @@ use Rattle.task_laws.specs.legal.alike_scopes.Alike.{SameNames}
 use Rattle.task_laws.specs.legal.alike_scopes.Laws.{IsMetBut}
 use Rattle.normal_laws.specs.structure.typed.ScopeOf.{MeansInteger}
 use Rattle.normal_laws.proofs.structure.typed.Variables.{AllMetBut, words-met}
-use Rattle.normal_laws.proofs.structure.typed.Stays.{old-expr, old-drange, old-formals}
+use Rattle.normal_laws.proofs.structure.typed.Stays.{old-expr, old-drange, old-formals, static-stays, drange-stays, formals-stay}
 use Rattle.replay_structure.proofs.typed.Control.{integer-mark}
 use Rattle.replay_structure.proofs.typed.Declared.{IsMetEntry, entries-met}
 use Rattle.collect_model.specs.declared.AddedNames.{AddedNames}
 use Rattle.collect_model.specs.Serving.{caller_formal}
 use Rattle.collect_model.specs.CollectTree.{entry_telling, task_telling}
-use Rattle.collect_structure.proofs.typed.Stays.{static-stays, drange-stays, formals-stay}
 use Rattle.collect_structure.proofs.typed.Typed.{same}
 
 -- what is asked of each entry, from the places of all

@@ -19,7 +19,7 @@ use Rattle.task_laws.specs.legal.alike_scopes.Old.{IsOldExpr}
 use Rattle.task_laws.specs.legal.alike_scopes.Laws.{IsMetBut}
 use Rattle.normal_laws.specs.structure.checked.Around.{own_rules}
 use Rattle.normal_laws.proofs.structure.typed.Calls.{fits-told, as_family}
-use Rattle.normal_laws.proofs.structure.typed.Stays.{old-option, old-formals}
+use Rattle.normal_laws.proofs.structure.typed.Stays.{old-option, old-formals, index-stays, formals-stay}
 use Rattle.normal_laws.proofs.structure.typed.Variables.{AllMetBut, words-met}
 use Rattle.replay_model.specs.Asking.{member_number}
 use Rattle.replay_structure.specs.typed.ScopeOf.{HasLists, IsEntryOf}
@@ -30,7 +30,6 @@ use Rattle.replay_structure.proofs.typed.Tests.{IsFit, fit-of, literal-fit}
 use Rattle.collect_model.specs.Names.{caller_text, collect_names, added_in}
 use Rattle.collect_model.specs.Serving.{caller_formal, head_telling}
 use Rattle.collect_structure.specs.typed.Told.{in_number, told_entry, IsToldScope}
-use Rattle.collect_structure.proofs.typed.Stays.{index-stays, formals-stay}
 use Rattle.collect_structure.proofs.typed.Calls.{x, named-told}
 
 -- an own entry that is there

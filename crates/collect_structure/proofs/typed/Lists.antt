@@ -15,7 +15,7 @@ use Rattle.task_laws.specs.legal.alike_scopes.Laws.{IsMetBut}
 use Rattle.normal_laws.proofs.structure.typed.Calls.{as_family}
 use Rattle.normal_laws.proofs.structure.typed.Variables.{AllMetBut}
 use Rattle.replay_structure.proofs.typed.Calls.{AreOldArgs}
-use Rattle.collect_structure.proofs.typed.Stays.{stays, expr-stays, of-stays}
+use Rattle.normal_laws.proofs.structure.typed.Stays.{stays, expr-stays, of-stays}
 
 -- ---- lists that stay
 

@@ -36,7 +36,7 @@ use Rattle.normal_laws.proofs.structure.typed.Cases.{with_cases, cases_asked}
 use Rattle.normal_laws.proofs.structure.typed.Literals.{integer-marked}
 use Rattle.normal_laws.proofs.structure.typed.Places.{met-node}
 use Rattle.normal_laws.proofs.structure.typed.Scopes.{meaning-more}
-use Rattle.normal_laws.proofs.structure.typed.Stays.{old-expr, old-choices, no-array}
+use Rattle.normal_laws.proofs.structure.typed.Stays.{old-expr, old-choices, no-array, condition-stays, loop-stays, choices-stay, selector-stays, handler-stays, plain-stays}
 use Rattle.replay_model.specs.Asking.{member_number}
 use Rattle.replay_structure.specs.typed.Controller.{IsInteger}
 use Rattle.replay_structure.proofs.typed.Calls.{AreOldArgs, old-args}
@@ -51,7 +51,6 @@ use Rattle.collect_structure.specs.Names.{added_id}
 use Rattle.collect_structure.specs.asked.Pieces.{own_call, call_call, begin_call, Pieces}
 use Rattle.collect_structure.specs.typed.Told.{AreOuter, IsToldScope, unhidden, told_asks}
 use Rattle.collect_structure.proofs.asked.Walk.{main-keeps, task-keeps}
-use Rattle.collect_structure.proofs.typed.Stays.{condition-stays, loop-stays, choices-stay, selector-stays, handler-stays, plain-stays}
 use Rattle.collect_structure.proofs.typed.Notes.{CallMet, answer-met, late-met, watch-met, part-met, came-met, note-met, recorder-met}
 use Rattle.collect_structure.proofs.typed.Calls.{x, callee-stays, telling-met, index-fit}
 use Rattle.collect_structure.proofs.typed.Accepts.{there-is, head-met, begun-fit}

@@ -1,6 +1,8 @@
 pub mod Owned
 pub mod Places
+pub mod Parts
 pub mod Stays
+pub mod Kept
 pub mod Waits
 pub mod Scopes
 pub mod Checked

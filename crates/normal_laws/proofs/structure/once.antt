@@ -1,5 +1,6 @@
 pub mod Once
 pub mod Places
+pub mod Holding
 pub mod Rewritten
 pub mod Leaving
 pub mod TaskTypes

@@ -34,7 +34,7 @@ use Rattle.replay_structure.specs.checked.Around.{kept_names, form_asks, IsAskin
 use Rattle.normal_laws.specs.structure.numbers.Single.{IsSingle}
 use Rattle.replay_structure.specs.checked.Checkable.{IsOtherThanTruth, HasForm, IsSameObject, IsSameDecl, IsShortEntry}
 use Rattle.replay_structure.proofs.checked.Names.{IsDoubled}
-use Rattle.replay_structure.proofs.checked.Stays.{IsFormMet, IsTextMet, UsesStay}
+use Rattle.replay_structure.proofs.checked.Stays.{IsFormMet, IsTextMet, UsesStay, stay-out}
 use Rattle.replay_structure.proofs.checked.Asked.{H, R, a, b, pieces}
 use Rattle.replay_structure.proofs.checked.Lists.{after_all, AllAlong}
 use Rattle.replay_structure.proofs.checked.Alike.{AreAlike, new-alike}
@@ -91,7 +91,7 @@ module _ (g : Setting) (c0 d0 : CheckScope) (own : c0.own ≡ None) (own' : d0.o
   then-along x y c d xs ys m h = record { met = (m, h.met); behind = h.behind }
 
   decl-met : (x : PDecl) (c d : CheckScope) → IsPlain x → IsKept x → IsSame x → Before c d → AllByRecursion (IsFormMet q) (check.decl_sites c bodies x) → AllByRecursion (IsTextMet q) (check.decl_sites d bodies' x)
-  decl-met x c d p e t h m = plain-decl q c d (uses-there q c0 d0 own own' c d h) bodies bodies' x p e (same-there q c0 d0 x c d h t) m
+  decl-met x c d p e t h m = plain-decl (stay-out q c d (uses-there q c0 d0 own own' c d h)) bodies bodies' x p e (same-there q c0 d0 x c d h t) m
 
   pub plain-along : (xs : List PDecl) (c d : CheckScope) → AllByRecursion IsPlain xs → AllByRecursion IsKept xs → AllByRecursion IsSingle xs → AllByRecursion IsOtherThanTruth xs → AllByRecursion IsSame xs → Before c d → AllAlong (IsFormMet q) bodies c xs → HasAlong c d xs xs
   plain-along [] c d p e s o t h m = record { met = tt; behind = h }
@@ -171,7 +171,7 @@ module _ (g : Setting) where
 
   object-met : (x : PDecl) (c0 d0 c d : CheckScope) → EveryDecl (kept_names p) x → IsSameObject c0.types d0.types x → AreInside c0 d0 c d → AllByRecursion M (check.own_object_sites c x) → AllByRecursion M' (check.own_object_sites d x)
   object-met (DObject ws constant x i s) c0 d0 c d e t h m =
-      object-stays p c d (inside-use c0 d0 c d h) ws constant x i s
+      object-stays (stay-out p c d (inside-use c0 d0 c d h)) ws constant x i s
       (subst (λ T. IsSameObject T d.types (DObject ws constant x i s)) (sym h.left.types) (subst (λ U. IsSameObject c0.types U (DObject ws constant x i s)) (sym h.right.types) t)) e m
   object-met (DTask x s) c0 d0 c d e t h m = tt
   object-met (DTaskBody w objects its s) c0 d0 c d e t h m = tt

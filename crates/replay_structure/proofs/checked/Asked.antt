@@ -29,7 +29,8 @@ use Rattle.replay_structure.specs.asked.Pieces.{IsAlternative, first_alternative
 use Rattle.replay_structure.specs.checked.Around.{kept_names, IsAsking}
 use Rattle.replay_structure.proofs.checked.Names.{kept-other}
 use Rattle.replay_structure.proofs.checked.Scopes.{accept-around, loop-around, handler-around}
-use Rattle.replay_structure.proofs.checked.Stays.{IsFormMet, IsTextMet, uses-stay, expr-stays, choices-stay, loop-stays, callee-stays, args-stay, head-stays, plain-stays}
+use Rattle.normal_laws.proofs.structure.checked.Parts.{expr-stays, choices-stay, loop-stays, args-stay, plain-stays}
+use Rattle.replay_structure.proofs.checked.Stays.{IsFormMet, IsTextMet, uses-stay, callee-stays, head-stays, stay, stay-in}
 use Rattle.replay_structure.proofs.checked.Tests.{Fits, kind-met, for-met, at-met, guarded-met, shut-met, due-met, index-fits}
 use Rattle.replay_structure.proofs.checked.Waits.{asks, pauses-fewer, some-accept, few-alternatives, HasOwn, own-entry, delays-none, delays-alone}
 
@@ -69,7 +70,7 @@ module _ (u : RewrittenUnit) where
 
     args-met : (k n : ℕ) (o : Option PArgs) → n + 100 ≤ k + 300 → IfSome o (EveryArgs r k) → AllByRecursion (IsFormMet q) (check.if_there (check.args_sites c.1.0 k) o) → At' (check.if_there (check.args_sites d n) o)
     args-met k n None le h m = tt
-    args-met k n (Some x) le h m = args-stay q c.1.0 d (uses-stay q c.1.0 d rel) k n x le h m
+    args-met k n (Some x) le h m = args-stay (stay q c.1.0 d (uses-stay q c.1.0 d rel)) k n x le h m
 
     -- the index of an accept
     served-met : (k n : ℕ) (s : Span) (h : PHead) → b.head c k h → n ≤ 296 → n + 103 ≤ (k + 1) + 300 → At' (check.expr_sites d n (permits_start u s h))
@@ -147,11 +148,11 @@ module _ (u : RewrittenUnit) where
     many = λ n h. tt;
     some = λ n. tt;
     duration = λ n h. tt;
-    plain = λ c d k n x p rel h le. let m : k ≤ 50 = h.1.1 in plain-stays q c.1.0 d rel k n x p (omega (arith, m, le)) h.0 h.1.0;
-    condition = λ c d k n e rel h le. let m : k ≤ 50 = h.1.1 in expr-stays q c.1.0 d (uses-stay q c.1.0 d rel) k n e (omega (arith, m, le)) h.0 h.1.0;
-    selector = λ c d k n e xs others s rel h le. let m : k ≤ 50 = h.1.1 in expr-stays q c.1.0 d (uses-stay q c.1.0 d rel) k n e (omega (arith, m, le)) h.0 h.1.0;
-    choices = λ c d k n e xs rel h le. let m : k ≤ 50 = h.1.1 in choices-stay q c.1.0 d (uses-stay q c.1.0 d rel) k n xs (omega (arith, m, le)) (recursion_from_All (EveryChoice r k) xs h.0.1) h.1.0;
-    loop = λ c d k n w x rel h le. let m : k ≤ 50 = h.1.1 in loop-stays q c.1.0 d rel k n w x (omega (arith, m, le)) h.0.0 h.0.1 h.1.0;
+    plain = λ c d k n x p rel h le. let m : k ≤ 50 = h.1.1 in plain-stays (stay-in q c.1.0 d rel) k n x p (omega (arith, m, le)) h.0 h.1.0;
+    condition = λ c d k n e rel h le. let m : k ≤ 50 = h.1.1 in expr-stays (stay q c.1.0 d (uses-stay q c.1.0 d rel)) k n e (omega (arith, m, le)) h.0 h.1.0;
+    selector = λ c d k n e xs others s rel h le. let m : k ≤ 50 = h.1.1 in expr-stays (stay q c.1.0 d (uses-stay q c.1.0 d rel)) k n e (omega (arith, m, le)) h.0 h.1.0;
+    choices = λ c d k n e xs rel h le. let m : k ≤ 50 = h.1.1 in choices-stay (stay q c.1.0 d (uses-stay q c.1.0 d rel)) k n xs (omega (arith, m, le)) (recursion_from_All (EveryChoice r k) xs h.0.1) h.1.0;
+    loop = λ c d k n w x rel h le. let m : k ≤ 50 = h.1.1 in loop-stays (stay q c.1.0 d (uses-stay q c.1.0 d rel)) k n w x (omega (arith, m, le)) h.0.0 h.0.1 h.1.0;
     looping = λ c d k w x rel h. loop-around q c.1.0 d w x rel;
     callee = λ c d k j n x rel near under h le. let m : j ≤ 50 = h.1.1 in callee-stays q c.1.0 d rel j n x (omega (arith, m, le)) h.0 h.1.0;
     call = λ c d k j n x rel near under h i le. let m : j ≤ 50 = i.1.1 in args-met c d rel j n x.args (omega (arith, m, le)) i.0.1 i.1.0;

@@ -25,7 +25,7 @@ use Rattle.replay_structure.proofs.texts.Listed.{more_task}
 use Rattle.replay_structure.specs.checked.Around.{kept_names}
 use Rattle.replay_structure.specs.checked.Checkable.{IsSameEntry, IsSameDecl, IsShortEntry}
 use Rattle.replay_structure.proofs.checked.Names.{added-text, IsDoubled}
-use Rattle.replay_structure.proofs.checked.Stays.{IsFormMet, IsTextMet, UsesStay, name-stays}
+use Rattle.replay_structure.proofs.checked.Stays.{IsFormMet, IsTextMet, UsesStay, name-stays, stay-out}
 use Rattle.replay_structure.proofs.checked.Plain.{numbered-stay, family-stays, formals-there, priorities-stay}
 
 module _ (q : PProgram) (d : CheckScope) where
@@ -141,9 +141,9 @@ module _ (q : PProgram) (c d : CheckScope) (use_stays : UsesStay q c d) where
       let formals : List CheckSite = check.names_sites c (check.formal_names e.formals) in
       let spans : List Span = map (λ (w : Word). w.span) (check.formal_names e.formals) in
       all_three (IsTextMet q) (check.if_there (check.family_sites d) e.family) (check.names_sites d (check.formal_names e.formals)) (check.numbered d Formals 0 spans)
-      (family-stays q c d use_stays e.family t h.2 (all_first M family formals (check.numbered c Formals 0 spans) m))
-      (formals-there q c d use_stays e.formals h.3 (all_second M family formals (check.numbered c Formals 0 spans) m))
-      (numbered-stay q c d use_stays Formals 0 spans (all_third M family formals (check.numbered c Formals 0 spans) m))
+      (family-stays (stay-out q c d use_stays) e.family t h.2 (all_first M family formals (check.numbered c Formals 0 spans) m))
+      (formals-there (stay-out q c d use_stays) e.formals h.3 (all_second M family formals (check.numbered c Formals 0 spans) m))
+      (numbered-stay (stay-out q c d use_stays) Formals 0 spans (all_third M family formals (check.numbered c Formals 0 spans) m))
 
   entry-stays : (e : PEntry) → EveryEntry r e → IsSameEntry c.types d.types e → AllByRecursion M (check.entry_sites c e) → AllByRecursion (IsTextMet q) (check.entry_sites d e)
   entry-stays e h t m = (name-stays q c d e.name h.1 m.0, rest-stays e h t m.1)
@@ -181,6 +181,6 @@ module _ (q : PProgram) (c d : CheckScope) (use_stays : UsesStay q c d) where
               (all_flat (IsTextMet q) (check.entry_sites d) (more_entries q t)
               (all_three Met t.entries (map (double_entry q) t.entries) (never ∷ join ∷ []) (entries-stay t.entries every same each) (doubles-met t.entries every same short named each)
               (added-entry q d never_text t.name.span refl (omega arith), (added-entry q d join_text t.name.span refl (omega arith), tt))))
-              (priorities-stay q c d use_stays t.priorities (recursion_from_All (EveryPriority r) t.priorities h.1.2) (all_back M (flat_map (check.entry_sites c) t.entries) priorities m.1.1)),
+              (priorities-stay (stay-out q c d use_stays) t.priorities (recursion_from_All (EveryPriority r) t.priorities h.1.2) (all_back M (flat_map (check.entry_sites c) t.entries) priorities m.1.1)),
         ),
       )

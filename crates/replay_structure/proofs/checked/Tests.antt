@@ -23,7 +23,8 @@ use Rattle.replay_model.specs.Names.{kind_text, argument_text, index_text, repla
 use Rattle.replay_model.specs.Asking.{permit_part, both, permit_is_kind, permit_is_for, as_number, number_in, member_number, permit_is_at}
 use Rattle.replay_model.specs.Waiting.{never_so, and_guard, is_shut, Pause, and_later, is_due}
 use Rattle.replay_structure.specs.checked.Around.{kept_names, IsAsking}
-use Rattle.replay_structure.proofs.checked.Stays.{IsFormMet, IsTextMet, expr-stays, uses-stay}
+use Rattle.normal_laws.proofs.structure.checked.Parts.{expr-stays}
+use Rattle.replay_structure.proofs.checked.Stays.{IsFormMet, IsTextMet, uses-stay, stay}
 
 module _ (u : RewrittenUnit) (c d : CheckScope) (rel : IsAsking u.setting.program c d) where
   abbrev q : PProgram
@@ -46,7 +47,7 @@ module _ (u : RewrittenUnit) (c d : CheckScope) (rel : IsAsking u.setting.progra
   Fits k e = EveryExpr r k e × At (check.expr_sites c k e)
 
   pub moved : (k n : ℕ) (e : PExpr) → Fits k e → n + 100 ≤ k + 300 → At' (check.expr_sites d n e)
-  moved k n e f le = expr-stays q c d (uses-stay q c d rel) k n e le f.0 f.1
+  moved k n e f le = expr-stays (stay q c d (uses-stay q c d rel)) k n e le f.0 f.1
 
   -- ---- a permit's parts
 

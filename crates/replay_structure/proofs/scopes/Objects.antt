@@ -59,7 +59,7 @@ module _ (q : PProgram) (old : ℕ → Bool) (c d : Scope) (more : IsMore q old 
       by_bounds None i n = tt
       by_bounds (Some b) i n =
           subst (λ z. AllMetBut (constraint_sites static d (scalar_kind z) b)) (marking-same q old c d more x.mark.name o.0)
-          (constraint-stays IsMetBut same old c d alike static (scalar_kind (marking c x.mark.name)) b i n)
+          (constraint-stays IsMetBut same old c d alike.names static (scalar_kind (marking c x.mark.name)) b i n)
 
   shape-more : (constant : Bool) (shape : PShape) (init : Option PInit) → IsOldShape old shape → AllMetBut (shape_sites c constant shape init) → AllMetBut (shape_sites d constant shape init)
   shape-more constant (OPlain x) init o m =
@@ -67,7 +67,7 @@ module _ (q : PProgram) (old : ℕ → Bool) (c d : Scope) (more : IsMore q old 
       (subind-more true (object_marks (c.in_main && not constant && is_none x.bounds && is_none init) x.bounds) x o m)
   shape-more constant (OArray index x) init o m =
       let allowed : Bool → MarkUse = λ b. component_marks (b && not constant && is_none x.bounds && is_none init) in
-      all_joined IsMetBut (drange_sites true d index) _ (drange-stays IsMetBut same old c d alike true index o.0 (all_front IsMetBut (drange_sites true c index) (subind_sites true (allowed c.in_main) c x) m))
+      all_joined IsMetBut (drange_sites true d index) _ (drange-stays IsMetBut same old c d alike.names true index o.0 (all_front IsMetBut (drange_sites true c index) (subind_sites true (allowed c.in_main) c x) m))
       (subst (λ b. AllMetBut (subind_sites true (allowed b) d x)) (sym more.main)
       (subind-more true (allowed c.in_main) x o.1 (all_back IsMetBut (drange_sites true c index) (subind_sites true (allowed c.in_main) c x) m)))
 
@@ -76,13 +76,13 @@ module _ (q : PProgram) (old : ℕ → Bool) (c d : Scope) (more : IsMore q old 
   value-more : (range : Option Range) (e : PExpr) → IsOldExpr old e → AllMetBut (value_sites c range e) → AllMetBut (value_sites d range e)
   value-more range e o m =
       let k : Option ℕ = option_map (λ (r : Range). r.kind) range in
-      all_joined IsMetBut (static_of d k e) _ (static-stays IsMetBut same old c d alike k e o (all_front IsMetBut (static_of c k e) (site c (must_lie_in e range) ∷ []) m))
-      (stays IsMetBut same old c d alike (must_lie_in e range) o (all_back IsMetBut (static_of c k e) (site c (must_lie_in e range) ∷ []) m).0, tt)
+      all_joined IsMetBut (static_of d k e) _ (static-stays IsMetBut same old c d alike.names k e o (all_front IsMetBut (static_of c k e) (site c (must_lie_in e range) ∷ []) m))
+      (stays IsMetBut same old c d alike.names (must_lie_in e range) o (all_back IsMetBut (static_of c k e) (site c (must_lie_in e range) ∷ []) m).0, tt)
 
   free-more : (e : PExpr) → IsOldExpr old e → AllMetBut (free_value_sites c e) → AllMetBut (free_value_sites d e)
   free-more e o m =
-      all_joined IsMetBut (expr_sites d e) _ (expr-stays IsMetBut same old c d alike e o (all_front IsMetBut (expr_sites c e) (site c (must_be_static e) ∷ []) m))
-      (stays IsMetBut same old c d alike (must_be_static e) o (all_back IsMetBut (expr_sites c e) (site c (must_be_static e) ∷ []) m).0, tt)
+      all_joined IsMetBut (expr_sites d e) _ (expr-stays IsMetBut same old c d alike.names e o (all_front IsMetBut (expr_sites c e) (site c (must_be_static e) ∷ []) m))
+      (stays IsMetBut same old c d alike.names (must_be_static e) o (all_back IsMetBut (expr_sites c e) (site c (must_be_static e) ∷ []) m).0, tt)
 
   values-more : (range : Option Range) (es : List PExpr) → AllByRecursion (IsOldExpr old) es → AllMetBut (flat_map (value_sites c range) es) → AllMetBut (flat_map (value_sites d range) es)
   values-more range [] o m = tt
@@ -114,10 +114,10 @@ module _ (q : PProgram) (old : ℕ → Bool) (c d : Scope) (more : IsMore q old 
   init-more : (T : TypeTable) (z : Marking) (x : PInit) → IsOldInit old x → AllMetBut (init_sites c T z x) → AllMetBut (init_sites d T z x)
   init-more T (ScalarMark k j) x o m =
       all_joined IsMetBut (scalar_init_sites d (range_of_mark T k) x) _ (scalar-more (range_of_mark T k) x o (all_front IsMetBut (scalar_init_sites c (range_of_mark T k) x) (site c (initializes for_scalar x) ∷ []) m))
-      (stays IsMetBut same old c d alike (initializes for_scalar x) tt (all_back IsMetBut (scalar_init_sites c (range_of_mark T k) x) (site c (initializes for_scalar x) ∷ []) m).0, tt)
+      (stays IsMetBut same old c d alike.names (initializes for_scalar x) tt (all_back IsMetBut (scalar_init_sites c (range_of_mark T k) x) (site c (initializes for_scalar x) ∷ []) m).0, tt)
   init-more T (ArrayMark k range part) x o m =
       all_joined IsMetBut (array_init_sites d (range_of_mark T part) x) _ (array-more (range_of_mark T part) x o (all_front IsMetBut (array_init_sites c (range_of_mark T part) x) (site c (initializes (for_array range) x) ∷ []) m))
-      (stays IsMetBut same old c d alike (initializes (for_array range) x) tt (all_back IsMetBut (array_init_sites c (range_of_mark T part) x) (site c (initializes (for_array range) x) ∷ []) m).0, tt)
+      (stays IsMetBut same old c d alike.names (initializes (for_array range) x) tt (all_back IsMetBut (array_init_sites c (range_of_mark T part) x) (site c (initializes (for_array range) x) ∷ []) m).0, tt)
   init-more T (TaskMark entries) x o m = any-more x o m
   init-more T NoMark x o m = any-more x o m
   init-more T UnknownMark x o m = any-more x o m

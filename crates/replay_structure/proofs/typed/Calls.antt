@@ -69,20 +69,20 @@ module _ (old : ℕ → Bool) (c d : Scope) (alike : Alike old c d) where
   exprs-stay : (es : List PExpr) → AllByRecursion (IsOldExpr old) es → AllMetBut (flat_map (expr_sites c) es) → AllMetBut (flat_map (expr_sites d) es)
   exprs-stay [] o m = tt
   exprs-stay (e ∷ es) o m =
-      all_joined IsMetBut (expr_sites d e) _ (expr-stays IsMetBut same old c d alike e o.0 (all_front IsMetBut (expr_sites c e) _ m))
+      all_joined IsMetBut (expr_sites d e) _ (expr-stays IsMetBut same old c d alike.names e o.0 (all_front IsMetBut (expr_sites c e) _ m))
       (exprs-stay es o.1 (all_back IsMetBut (expr_sites c e) (flat_map (expr_sites c) es) m))
 
   kinds-stay : (k : Option ℕ) (es : List PExpr) → AllByRecursion (IsOldExpr old) es → AllMetBut (flat_map (expr_of c k) es) → AllMetBut (flat_map (expr_of d k) es)
   kinds-stay k [] o m = tt
   kinds-stay k (e ∷ es) o m =
-      all_joined IsMetBut (expr_of d k e) _ (of-stays IsMetBut same old c d alike k e o.0 (all_front IsMetBut (expr_of c k e) _ m))
+      all_joined IsMetBut (expr_of d k e) _ (of-stays IsMetBut same old c d alike.names k e o.0 (all_front IsMetBut (expr_of c k e) _ m))
       (kinds-stay k es o.1 (all_back IsMetBut (expr_of c k e) (flat_map (expr_of c k) es) m))
 
   is-actual : (mode : ParMode) (e : PExpr) → IsOldExpr old e → IsMetBut (site c (is_actual mode e)) → IsMetBut (site d (is_actual mode e))
-  is-actual mode e o m = stays IsMetBut same old c d alike (is_actual mode e) o m
+  is-actual mode e o m = stays IsMetBut same old c d alike.names (is_actual mode e) o m
 
   whole-stays : (e : PExpr) → IsOldExpr old e → AllMetBut (expr_sites c e) → AllMetBut (expr_sites d e)
-  whole-stays e o m = expr-stays IsMetBut same old c d alike e o m
+  whole-stays e o m = expr-stays IsMetBut same old c d alike.names e o m
 
   written-stays : (mode : ParMode) (e : PExpr) → IsOldExpr old e → AllMetBut (written_actual_sites c mode e) → AllMetBut (written_actual_sites d mode e)
   written-stays mode (EName id s) o m = (is-actual mode (EName id s) o m.0, tt)
@@ -106,7 +106,7 @@ module _ (old : ℕ → Bool) (c d : Scope) (alike : Alike old c d) where
   actuals-stay (f ∷ fs) (e ∷ es) o m =
       let behind = all_back IsMetBut (actual_sites c f.mode e) (site c (must_be_of e f.kind) ∷ actuals_sites c fs es) m in
       all_joined IsMetBut (actual_sites d f.mode e) _ (actual-stays f.mode e o.0 (all_front IsMetBut (actual_sites c f.mode e) _ m))
-      (stays IsMetBut same old c d alike (must_be_of e f.kind) o.0 behind.0, actuals-stay fs es o.1 behind.1)
+      (stays IsMetBut same old c d alike.names (must_be_of e f.kind) o.0 behind.0, actuals-stay fs es o.1 behind.1)
 
   second-exprs : (o : Option (List PExpr)) → IfSome o (AllByRecursion (IsOldExpr old)) → AllMetBut (if_there (flat_map (expr_sites c)) o) → AllMetBut (if_there (flat_map (expr_sites d)) o)
   second-exprs None i m = tt

@@ -61,12 +61,12 @@ module _ (q : PProgram) (old : ℕ → Bool) (c d : Scope) (alike : Alike old c 
   entry-stays : (e : PEntry) → EveryEntry (own_rules old) e → IsMetEntry c e → IsMetEntry d e
   entry-stays e h m =
       all_joined IsMetBut (if_there (drange_sites true d) e.family) (formals_sites d e.formals) (by_family e.family h.2 (all_front IsMetBut (if_there (drange_sites true c) e.family) (formals_sites c e.formals) m))
-      (formals-stay IsMetBut same old c d alike e.formals (old-formals old e.formals (recursion_from_All (EveryFormal (own_rules old)) e.formals h.3))
+      (formals-stay IsMetBut same old c d alike.names e.formals (old-formals old e.formals (recursion_from_All (EveryFormal (own_rules old)) e.formals h.3))
       (all_back IsMetBut (if_there (drange_sites true c) e.family) (formals_sites c e.formals) m))
     where
       by_family : (o : Option PDrange) → IfSome o (EveryDrange (own_rules old) 2) → AllMetBut (if_there (drange_sites true c) o) → AllMetBut (if_there (drange_sites true d) o)
       by_family None i n = tt
-      by_family (Some r) i n = drange-stays IsMetBut same old c d alike true r (old-drange old 2 r i) n
+      by_family (Some r) i n = drange-stays IsMetBut same old c d alike.names true r (old-drange old 2 r i) n
 
   entries-stay : (es : List PEntry) → AllByRecursion (EveryEntry (own_rules old)) es → AllByRecursion (IsMetEntry c) es → AllByRecursion (IsMetEntry d) es
   entries-stay [] h m = tt
@@ -80,7 +80,7 @@ module _ (q : PProgram) (old : ℕ → Bool) (c d : Scope) (alike : Alike old c 
   priorities-stay [] h m = tt
   priorities-stay (p ∷ ps) h m =
       all_joined IsMetBut (static_of d (Some integer_kind) p.value) _
-      (static-stays IsMetBut same old c d alike (Some integer_kind) p.value (old-expr old 2 p.value h.0.1) (all_front IsMetBut (static_of c (Some integer_kind) p.value) _ m))
+      (static-stays IsMetBut same old c d alike.names (Some integer_kind) p.value (old-expr old 2 p.value h.0.1) (all_front IsMetBut (static_of c (Some integer_kind) p.value) _ m))
       (priorities-stay ps h.1 (all_back IsMetBut (static_of c (Some integer_kind) p.value) (flat_map (λ (x : PPriority). static_of c (Some integer_kind) x.value) ps) m))
 
   -- a task with doubles of its entries, DED_NEVER and DED_JOIN

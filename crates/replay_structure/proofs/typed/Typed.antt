@@ -92,7 +92,7 @@ module _ (u : RewrittenUnit) (old inner : ℕ → Bool) (outer : AreOuter u.sett
   module _ (c : C) (d : Scope) (rel : R c d) where
     guard-fit : (k : ℕ) (o : Option PExpr) → IfSome o (b.condition c k) → IfSome o (IsFit d truth_kind)
     guard-fit k None h = tt
-    guard-fit k (Some e) h = fit-of d truth_kind e (condition-stays IsMetBut same old c.1 d rel.alike e (old-expr old k e h.0) h.1)
+    guard-fit k (Some e) h = fit-of d truth_kind e (condition-stays IsMetBut same old c.1 d rel.alike.names e (old-expr old k e h.0) h.1)
 
     pauses-fit : (k : ℕ) (x : PAlts) → AskedAlts b c k x → AllByRecursion (λ (p : Pause). IfSome p.guard (IsFit d truth_kind)) (pauses_of x)
     pauses-fit k no_alt h = tt
@@ -110,11 +110,11 @@ module _ (u : RewrittenUnit) (old inner : ℕ → Bool) (outer : AreOuter u.sett
     many = λ n h. tt;
     some = λ n. tt;
     duration = λ n h. tt;
-    plain = λ c d k n x i rel h le. plain-stays IsMetBut same old c.1 d rel.alike k x i h.0 h.1;
-    condition = λ c d k n e rel h le. condition-stays IsMetBut same old c.1 d rel.alike e (old-expr old k e h.0) h.1;
-    selector = λ c d k n e xs others s rel h le. selector-stays IsMetBut same old c.1 d rel.alike e xs others s (old-expr old k e h.0.0) h.1 h.0.1;
-    choices = λ c d k n e xs rel h le. choices-stay IsMetBut same old c.1 d rel.alike e xs h.1.0 h.1.1 (old-choices old k xs (recursion_from_All (EveryChoice r k) xs h.0.0.1)) h.0.1;
-    loop = λ c d k n w x rel h le. loop-stays IsMetBut same old c.1 d rel.alike k w x h.0.1 h.1.0;
+    plain = λ c d k n x i rel h le. plain-stays IsMetBut same old c.1 d rel.alike.names k x i h.0 h.1;
+    condition = λ c d k n e rel h le. condition-stays IsMetBut same old c.1 d rel.alike.names e (old-expr old k e h.0) h.1;
+    selector = λ c d k n e xs others s rel h le. selector-stays IsMetBut same old c.1 d rel.alike.names e xs others s (old-expr old k e h.0.0) h.1 h.0.1;
+    choices = λ c d k n e xs rel h le. choices-stay IsMetBut same old c.1 d rel.alike.names e xs h.1.0 h.1.1 (old-choices old k xs (recursion_from_All (EveryChoice r k) xs h.0.0.1)) h.0.1;
+    loop = λ c d k n w x rel h le. loop-stays IsMetBut same old c.1 d rel.alike.names k w x h.0.1 h.1.0;
     looping = λ c d k w x rel h. scheme-scope u old inner outer c.1 d k x h.0.1 h.1.1 rel;
     callee = λ c d k j n x rel h un i le. callee-stays u old inner c.1 d rel x i.0.0 i.1.1 i.1.0;
     call = λ c d k j n x rel h un i m le. call-stays u old inner c.1 d rel x i.0.0 i.1.1 m.0.0 (if-args j x.args m.0.1) m.1;
@@ -122,7 +122,7 @@ module _ (u : RewrittenUnit) (old inner : ℕ → Bool) (outer : AreOuter u.sett
     head = λ c d k n h rel i le. head-kept u old inner c.1 d rel k h i.0.1 i.1.1 i.1.0;
     in_accept = λ c d k h rel i. accept-scope u old inner outer c.1 d k h i.0.1 i.1.2 rel;
     handlers = λ hs h. tt;
-    handler = λ c d k n names ws rel h le. handler-stays IsMetBut same old c.1 d rel.alike names ws (recursion_from_All (EveryWord r) ws h.0) h.1;
+    handler = λ c d k n names ws rel h le. handler-stays IsMetBut same old c.1 d rel.alike.names names ws (recursion_from_All (EveryWord r) ws h.0) h.1;
     handling = λ c d rel. rel;
     control = λ c d k n s rel h le. single-met d (added_word g.program s control_text) rel.control.entries rel.control.means;
     asks = λ c d k n s rel h le. asks-met u old inner c.1 d rel s;

@@ -33,10 +33,10 @@ use Rattle.collect_model.specs.Teller.{task_of}
 use Rattle.collect_model.specs.CollectTree.{flags_type, main_declared, behind_own, task_telling}
 use Rattle.collect_structure.specs.Names as names
 use Rattle.collect_structure.specs.checked.Checkable.{IsOtherThanTruths, HasFewFormals}
-use Rattle.collect_structure.proofs.checked.Stays.{IsFormMet}
+use Rattle.collect_structure.proofs.checked.Stays.{IsFormMet, stay-out}
 use Rattle.collect_structure.proofs.checked.Along.{flags-met, int-io-met}
 use Rattle.collect_structure.proofs.checked.Bodies.{frame-object, use-object}
-use Rattle.collect_structure.proofs.checked.Plain.{plain-decl}
+use Rattle.replay_structure.proofs.checked.Plain.{plain-decl, object-stays}
 use Rattle.collect_structure.proofs.checked.Tasks.{task-met}
 use Rattle.collect_model.specs.aborts.Places.{places_of, places_in, most_places}
 use Rattle.collect_model.specs.aborts.AbortTeller.{told_at}
@@ -51,8 +51,7 @@ use Rattle.collect_structure.proofs.aborts.checked.Asked.{y, H, R, S, a, b, piec
 use Rattle.collect_structure.proofs.aborts.checked.Before.{AreBefore, same-there, plain-before, object-before, task-before, uses-there}
 use Rattle.collect_structure.proofs.aborts.checked.Bodies.{AreBehindTasks, mine, object-alike, new-object-alike, body-around}
 use Rattle.collect_structure.proofs.aborts.checked.Names.{longer}
-use Rattle.collect_structure.proofs.aborts.checked.Objects.{object-stays}
-use Rattle.collect_structure.proofs.aborts.checked.Stays.{IsTextMet, UsesStay}
+use Rattle.collect_structure.proofs.aborts.checked.Stays.{IsTextMet, UsesStay, stay-out as abort-out}
 
 -- ---- declarations in front of the bodies
 
@@ -82,7 +81,7 @@ module _ (g : Setting) (c0 d0 : CheckScope) (own : c0.own ≡ None) (own' : d0.o
   decl-met : (x : PDecl) (c d : CheckScope) → IsPlain x → IsKept x → IsSame x → Before c d → AllByRecursion (IsFormMet q) (check.decl_sites c bodies x) →
       AllByRecursion (IsTextMet q) (check.decl_sites d bodies' x)
   decl-met x c d p e t h m =
-      longer q (check.decl_sites d bodies' x) (plain-decl q c d (uses-there q c0 d0 own own' c d h) bodies bodies' x p e.1 (same-there q c0 d0 x c d h t) m)
+      longer q (check.decl_sites d bodies' x) (plain-decl (stay-out q c d (uses-there q c0 d0 own own' c d h)) bodies bodies' x p e.1 (same-there q c0 d0 x c d h t) m)
 
   plain-along : (xs : List PDecl) (c d : CheckScope) → AllByRecursion IsPlain xs → AllByRecursion IsKept xs → AllByRecursion IsSingle xs →
       AllByRecursion IsOtherThanTruths xs → AllByRecursion IsSame xs → Before c d → AllAlong (IsFormMet q) bodies c xs → HasAlong c d xs xs
@@ -218,7 +217,7 @@ module _ (g : Setting) where
   object-met : (x : PDecl) (c0 d0 c d : CheckScope) → EveryDecl (kept_names p) x → IsSameObject c0.types d0.types x → AreInside c0 d0 c d →
       AllByRecursion M (check.own_object_sites c x) → AllByRecursion M' (check.own_object_sites d x)
   object-met (DObject ws constant x i s) c0 d0 c d e t h m =
-      object-stays p c d (inside-use c0 d0 c d h) ws constant x i s
+      object-stays (abort-out p c d (inside-use c0 d0 c d h)) ws constant x i s
       (subst (λ T. IsSameObject T d.types (DObject ws constant x i s)) (sym h.left.types)
       (subst (λ U. IsSameObject c0.types U (DObject ws constant x i s)) (sym h.right.types) t)) e m
   object-met (DTask x s) c0 d0 c d e t h m = tt

@@ -46,7 +46,9 @@ use Rattle.collect_structure.specs.aborts.asked.Pieces.{Pieces}
 use Rattle.collect_structure.specs.aborts.checked.Around.{kept_names, IsTelling, IsStaying}
 use Rattle.collect_structure.proofs.aborts.checked.Names.{longer-met}
 use Rattle.collect_structure.proofs.aborts.checked.Scopes.{accept-around, added-loop, loop-around, beside-handler, handler-around}
-use Rattle.collect_structure.proofs.aborts.checked.Stays.{IsTextMet, counted-stays, uses-stay, expr-stays, choices-stay, loop-stays, callee-stays, args-stay, head-stays, plain-stays}
+use Rattle.normal_laws.proofs.structure.checked.Kept.{counted-stays}
+use Rattle.normal_laws.proofs.structure.checked.Parts.{expr-stays, choices-stay, loop-stays, args-stay, plain-stays}
+use Rattle.collect_structure.proofs.aborts.checked.Stays.{IsTextMet, uses-stay, callee-stays, head-stays, stay, stay-in}
 use Rattle.collect_structure.proofs.aborts.checked.Waits.{form-kept, places-kept, IsAgreed, accepts-kept}
 use Rattle.collect_structure.proofs.aborts.typed.Typed.{telling_by}
 
@@ -184,7 +186,7 @@ module _ (g : Setting) (task most : ℕ) where
             IfSome (first_expr es) (λ z. At' (check.expr_sites d m z))
         first [] f j = tt
         first (z ∷ zs) f j =
-            expr-stays q c d (uses-stay q c d y most rel) k m z le f.0 (all_front (IsFormMet q) (check.expr_sites c k z) (check.exprs_sites c k zs) j)
+            expr-stays (stay q c d (uses-stay q c d y most rel)) k m z le f.0 (all_front (IsFormMet q) (check.expr_sites c k z) (check.exprs_sites c k zs) j)
 
         by_family : (f : Bool) → IfSome (lists_in f args).index (λ z. At' (check.expr_sites d m z))
         by_family false = tt
@@ -196,13 +198,13 @@ module _ (g : Setting) (task most : ℕ) where
     index-met : (k : ℕ) (o : Option PExpr) → IfSome o (EveryExpr r k) → AllByRecursion (IsFormMet q) (check.if_there (check.expr_sites c k) o) → (m : ℕ) →
         m + 100 ≤ k + 300 → IfSome o (λ z. At' (check.expr_sites d m z))
     index-met k None f i m le = tt
-    index-met k (Some z) f i m le = expr-stays q c d (uses-stay q c d y most rel) k m z le f i
+    index-met k (Some z) f i m le = expr-stays (stay q c d (uses-stay q c d y most rel)) k m z le f i
 
     telling-met : (k n : ℕ) (s : Span) (f : Bool) (o : Option PArgs) → n ≤ 300 → n + 100 ≤ k + 300 → IfSome o (EveryArgs r k) →
         AllByRecursion (IsFormMet q) (check.if_there (check.args_sites c k) o) → At' (check.args_sites d n (args_with f (own_number x s) o))
     telling-met k n s true None le few h i = (deep d n s le, tt)
     telling-met k n s true (Some args) le few h i =
-        let kept : At' (check.args_sites d n args) = args-stay q c d (uses-stay q c d y most rel) k n args few h i in
+        let kept : At' (check.args_sites d n args) = args-stay (stay q c d (uses-stay q c d y most rel)) k n args few h i in
         all_joined (IsTextMet q) (check.exprs_sites d n args.first) _
         (all_front (IsTextMet q) (check.exprs_sites d n args.first) (check.if_there (check.exprs_sites d n) args.second) kept) (
           deep d n s le,
@@ -214,7 +216,7 @@ module _ (g : Setting) (task most : ℕ) where
         behind None j = tt
         behind (Some es) j = j
     telling-met k n s false None le few h i = (deep d n s le, tt)
-    telling-met k n s false (Some args) le few h i = (deep d n s le, args-stay q c d (uses-stay q c d y most rel) k n args few h i)
+    telling-met k n s false (Some args) le few h i = (deep d n s le, args-stay (stay q c d (uses-stay q c d y most rel)) k n args few h i)
 
     -- ---- the test of the part that came
 
@@ -313,15 +315,15 @@ module _ (g : Setting) (task most : ℕ) where
     many = λ n h. tt;
     some = λ n. tt;
     duration = λ n h. tt;
-    plain = λ c d k n z p rel h le. let m : k ≤ 50 = h.1.1 in plain-stays q c.1.0 d y most rel.0 rel.1 k n z p (omega (arith, m, le)) h.0 h.1.0;
-    condition = λ c d k n e rel h le. let m : k ≤ 50 = h.1.1 in expr-stays q c.1.0 d (uses-stay q c.1.0 d y most rel) k n e (omega (arith, m, le)) h.0 h.1.0;
+    plain = λ c d k n z p rel h le. let m : k ≤ 50 = h.1.1 in plain-stays (stay-in q c.1.0 d y most rel.0 rel.1) k n z p (omega (arith, m, le)) h.0 h.1.0;
+    condition = λ c d k n e rel h le. let m : k ≤ 50 = h.1.1 in expr-stays (stay q c.1.0 d (uses-stay q c.1.0 d y most rel)) k n e (omega (arith, m, le)) h.0 h.1.0;
     selector = λ c d k n e xs others s rel h le.
         let m : k ≤ 50 = h.1.1 in
-        expr-stays q c.1.0 d (uses-stay q c.1.0 d y most rel.0) k n e (omega (arith, m, le)) h.0 h.1.0;
+        expr-stays (stay q c.1.0 d (uses-stay q c.1.0 d y most rel.0)) k n e (omega (arith, m, le)) h.0 h.1.0;
     choices = λ c d k n e xs rel h le.
         let m : k ≤ 50 = h.1.1 in
-        choices-stay q c.1.0 d (uses-stay q c.1.0 d y most rel.0) k n xs (omega (arith, m, le)) (recursion_from_All (EveryChoice r k) xs h.0.1) h.1.0;
-    loop = λ c d k n w z rel h le. let m : k ≤ 50 = h.1.1 in loop-stays q c.1.0 d y most rel.0 k n w z (omega (arith, m, le)) h.0.0 h.0.1 h.1.0;
+        choices-stay (stay q c.1.0 d (uses-stay q c.1.0 d y most rel.0)) k n xs (omega (arith, m, le)) (recursion_from_All (EveryChoice r k) xs h.0.1) h.1.0;
+    loop = λ c d k n w z rel h le. let m : k ≤ 50 = h.1.1 in loop-stays (stay q c.1.0 d (uses-stay q c.1.0 d y most rel.0)) k n w z (omega (arith, m, le)) h.0.0 h.0.1 h.1.0;
     callee = λ c d k j n z rel near under h le. let m : j ≤ 50 = h.1.1 in callee-stays q c.1.0 d y most rel.0 j n z (omega (arith, m, le)) h.0 h.1.0;
     aborts = λ c d k n xs rel h le. no-order d xs h.1.1;
     handlers = λ hs t h. tt;

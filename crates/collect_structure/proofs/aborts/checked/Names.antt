@@ -20,7 +20,7 @@ use Rattle.normal_laws.proofs.structure.checked.Places.{met-name}
 use Rattle.normal_laws.proofs.structure.numbers.Named.{Has, text-longer, text-there}
 use Rattle.collect_model.specs.Names.{collect_names}
 use Rattle.collect_structure.specs.Names as collect
-use Rattle.collect_structure.proofs.checked.Stays.{under-limit}
+use Rattle.normal_laws.proofs.structure.checked.Kept.{under-limit}
 use Rattle.collect_model.specs.aborts.Names.{acceptors_text, each_text, taken_text, refused_text, with_places, with_recorded}
 use Rattle.collect_model.specs.aborts.Places.{most_places}
 use Rattle.collect_model.specs.aborts.AbortTeller.{names_told}

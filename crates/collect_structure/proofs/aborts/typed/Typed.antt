@@ -21,7 +21,7 @@ use Rattle.task_laws.specs.legal.alike_scopes.Laws.{IsMetBut}
 use Rattle.normal_model.specs.RewrittenUnit.{RewrittenUnit}
 use Rattle.normal_laws.specs.structure.checked.Around.{own_rules}
 use Rattle.normal_laws.proofs.structure.typed.Cases.{with_cases, cases_asked}
-use Rattle.normal_laws.proofs.structure.typed.Stays.{old-expr, old-choices, no-array}
+use Rattle.normal_laws.proofs.structure.typed.Stays.{old-expr, old-choices, no-array, condition-stays, loop-stays, choices-stay, selector-stays, handler-stays, plain-stays}
 use Rattle.replay_model.specs.Asking.{member_number}
 use Rattle.replay_structure.proofs.typed.Calls.{AreOldArgs, old-args}
 use Rattle.replay_structure.proofs.typed.Tests.{IsFit, literal-fit}
@@ -32,7 +32,6 @@ use Rattle.collect_model.specs.Noting.{has_delay, has_failed}
 use Rattle.collect_structure.specs.Names.{added_id}
 use Rattle.collect_structure.specs.asked.Pieces.{own_call, call_call}
 use Rattle.collect_structure.specs.typed.Told.{AreOuter, IsToldScope, told_asks}
-use Rattle.collect_structure.proofs.typed.Stays.{condition-stays, loop-stays, choices-stay, selector-stays, handler-stays, plain-stays}
 use Rattle.collect_structure.proofs.typed.Notes.{CallMet, answer-met, late-met, part-met, note-met, recorder-met}
 use Rattle.collect_structure.proofs.typed.Calls.{callee-stays, telling-met, index-fit}
 use Rattle.collect_structure.proofs.typed.Accepts.{head-met}

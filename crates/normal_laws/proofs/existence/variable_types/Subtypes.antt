@@ -284,4 +284,4 @@ module _ (p : PProgram) (ready : IsReady p) where
 
     -- the variables of a unit are scalar
     pub unit-scalar : (b : PBody) → AllByRecursion IsScalarDecl (unit_variables u b)
-    unit-scalar b = body-keeps (normal_rewriter u) (AllByRecursion IsScalarDecl) statement-scalar (λ vars x h. more-scalar _ _ vars (alternative-scalar x) h) b [] tt
+    unit-scalar b = body-keeps (normal_rewriter u) (normal_rewriter u) (λ v w. AllByRecursion IsScalarDecl v) (λ v w x h. statement-scalar v x h) (λ v w x h. more-scalar _ _ v (alternative-scalar x) h) b [] [] tt

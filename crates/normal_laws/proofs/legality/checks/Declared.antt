@@ -24,7 +24,7 @@ use Rattle.syn_event.specs.RuleSharedVariable.{shared_name, in_body_of, shared_v
 use Rattle.syn_event.specs.DeclaredTasks.{text_of}
 use Rattle.task_laws.specs.legal.sites.Met.{IsCheckMet}
 use Rattle.common_lemmas.proofs.Lists.{all_joined, all_weaker, all_three, all_flat}
-use Rattle.normal_laws.proofs.structure.checked.Stays.{formal-words}
+use Rattle.normal_laws.proofs.structure.checked.Parts.{formal-words}
 use Rattle.normal_laws.proofs.structure.checked.Places.{passed-not, met-deep, met-name, met-use}
 
 -- ---- sizes

@@ -32,7 +32,8 @@ use Rattle.task_laws.specs.legal.sites.Met.{IsCheckMet}
 use Rattle.normal_laws.proofs.structure.placed.Added.{AreVariablesFrom}
 use Rattle.normal_laws.specs.structure.checked.Around.{own_rules, IsAround}
 use Rattle.normal_laws.proofs.structure.checked.Scopes.{use-under, callee-under, all-under}
-use Rattle.normal_laws.proofs.structure.checked.Stays.{expr-stays}
+use Rattle.normal_laws.proofs.structure.checked.Parts.{expr-stays}
+use Rattle.normal_laws.proofs.structure.checked.Stays.{stay}
 use Rattle.common_lemmas.proofs.Lists.{all_front, all_back, all_joined, all_three, all_second, all_third}
 use Rattle.std.proofs.lemmas.Bool.{ltb-false}
 use Rattle.common_lemmas.proofs.Numbers.{equal_self, lt_is}
@@ -74,7 +75,7 @@ module _ (g : Setting) (own : ℕ → Bool) (T U : TypeTable) (names names' : Li
 
   module _ (c d : CheckScope) (rel : IsAround g own [] c d) (table : d.types ≡ U) where
     one : (e : PExpr) → EveryExpr (own_rules own) 2 e → At (check.expr_sites c 2 e) → At' (check.expr_sites d 2 e)
-    one e h m = expr-stays g own [] names names' texts c d rel 2 2 e (omega arith) h m
+    one e h m = expr-stays (stay g own [] names names' texts c d rel) 2 2 e (omega arith) h m
 
     several : (es : List PExpr) → AllByRecursion (EveryExpr (own_rules own) 2) es → At (check.exprs_sites c 2 es) → At' (check.exprs_sites d 2 es)
     several [] h m = tt

@@ -127,4 +127,4 @@ module _ (g : Setting) (Q : PSubind → Type 0) (h : AreSubtypes g Q) where
 
     -- So it is with all variables of a unit.
     pub all-variables : (b : PBody) → AllByRecursion P (unit_variables u b)
-    all-variables b = body-keeps (normal_rewriter u) (AllByRecursion P) all-statement (λ vars x a. all-more _ _ vars (all-alternative x) a) b [] tt
+    all-variables b = body-keeps (normal_rewriter u) (normal_rewriter u) (λ v w. AllByRecursion P v) (λ v w x a. all-statement v x a) (λ v w x a. all-more _ _ v (all-alternative x) a) b [] [] tt

@@ -51,7 +51,7 @@ module _ (old : ℕ → Bool) (S t : Scope) (alike : Alike old S t) (free : None
 
   family-met : (o : Option PDrange) → IfSome o (EveryDrange (own_rules old) 2) → IfSome o (HasRange S) → AllMetBut (if_there (drange_sites true t) o)
   family-met None every h = tt
-  family-met (Some r) every h = drange-stays IsMetBut but old S t alike true r (old-drange old 2 r every) (drange-is-met S free r h)
+  family-met (Some r) every h = drange-stays IsMetBut but old S t alike.names true r (old-drange old 2 r every) (drange-is-met S free r h)
 
   marks-there : (fs : List PFormal) → AllByRecursion (λ (f : PFormal). IsScalarMark S f.mark.name) fs → AllMetBut (formal_mark_sites S fs)
   marks-there [] h = tt
@@ -59,7 +59,7 @@ module _ (old : ℕ → Bool) (S t : Scope) (alike : Alike old S t) (free : None
 
   formals-met : (fs : List PFormal) → AllByRecursion (EveryFormal (own_rules old)) fs → AllByRecursion (λ (f : PFormal). IsScalarMark S f.mark.name) fs → AllMetBut (formals_sites t fs)
   formals-met fs every h =
-      formals-stay IsMetBut but old S t alike fs (old-formals old fs every)
+      formals-stay IsMetBut but old S t alike.names fs (old-formals old fs every)
       (all_joined IsMetBut (names_sites false (inner_scope S) (all_names fs)) (formal_mark_sites S fs) (words-met false (all_names fs) (inner_scope S)) (marks-there fs h))
 
   entries-met : (before : List ℕ) (es : List PEntry) → AllByRecursion (EveryEntry (own_rules old)) es → AllByRecursion (IsEntryKnown S) es → AllMetBut (entries_sites t before es)
@@ -77,7 +77,7 @@ module _ (old : ℕ → Bool) (S t : Scope) (alike : Alike old S t) (free : None
   priorities-met [] every h = tt
   priorities-met (q ∷ qs) every h =
       all_joined IsMetBut (static_of t (Some integer_kind) q.value) (flat_map (λ (z : PPriority). static_of t (Some integer_kind) z.value) qs)
-      (static-stays IsMetBut but old S t alike (Some integer_kind) q.value (old-expr old 2 q.value every.0.1) (static-of-met S free integer_kind q.value h.0)) (priorities-met qs every.1 h.1)
+      (static-stays IsMetBut but old S t alike.names (Some integer_kind) q.value (old-expr old 2 q.value every.0.1) (static-of-met S free integer_kind q.value h.0)) (priorities-met qs every.1 h.1)
 
   -- A task under any name meets the rules there.
   pub task-met : (name : NameId) (u : PTask) → EveryTask (own_rules old) u → IsTaskKnown S u → AllMetBut (task_sites t (task_under name u))

@@ -112,7 +112,7 @@ module _ (own : ℕ → Bool) (c t : Scope) (alike : Alike own c t) (free : None
       let allowed = object_marks (may_be_task t false x.bounds None) x.bounds in
       all_joined IsMetBut (names ++ subind_sites true allowed t x) []
       (all_joined IsMetBut names (subind_sites true allowed t x) (words-met _ ws t)
-      (subind-stays IsMetBut but own c t alike true allowed x o (ap (λ m. not (allows_task allowed) || is_no_task m) h.mark.marks ∙ or_true (not (allows_task allowed)))
+      (subind-stays IsMetBut but own c t alike.names true allowed x o (ap (λ m. not (allows_task allowed) || is_no_task m) h.mark.marks ∙ or_true (not (allows_task allowed)))
       (any-subtype-met c free allowed x h))) tt
 
 -- ---- a legal program

@@ -54,4 +54,4 @@ module _ (u : RewrittenUnit) where
   statement-numbered vars (SLoop w c l s) h = h
 
   pub unit-numbered : (c : PBody) → AreNumbered u.setting (unit_variables u c) 0
-  unit-numbered c = body-keeps (normal_rewriter u) (λ vars. AreNumbered u.setting vars 0) statement-numbered (λ vars x h. more-numbered u.setting _ _ vars h) c [] (none_numbered 0)
+  unit-numbered c = body-keeps (normal_rewriter u) (normal_rewriter u) (λ v w. AreNumbered u.setting v 0) (λ v w x h. statement-numbered v x h) (λ v w x h. more-numbered u.setting _ _ v h) c [] [] (none_numbered 0)

@@ -48,7 +48,8 @@ use Rattle.normal_laws.proofs.structure.placed.Calls.{moves}
 use Rattle.normal_laws.specs.structure.checked.Around.{own_rules, IsBeside, callee_asks, IsLiteralOf, is_false, is_true, is_enumerated, IsAround}
 use Rattle.normal_laws.proofs.structure.checked.Places.{met-deep, met-alternative, met-use, met-callee, met-wait}
 use Rattle.normal_laws.proofs.structure.checked.Scopes.{accept-around, loop-around, handler-around}
-use Rattle.normal_laws.proofs.structure.checked.Stays.{expr-stays, choices-stay, loop-stays, accept-stays, head-stays, formals-stay, plain-stays}
+use Rattle.normal_laws.proofs.structure.checked.Parts.{expr-stays, choices-stay, loop-stays, head-stays, formals-stay, plain-stays}
+use Rattle.normal_laws.proofs.structure.checked.Stays.{name-stays, stay, accept-stays, stay-in}
 use Rattle.normal_laws.proofs.structure.checked.Waits.{form-kept, IsAgreed, accepts-kept}
 use Rattle.common_lemmas.proofs.Lists.{all_back, all_front, all_joined}
 
@@ -183,7 +184,7 @@ module _ (u : RewrittenUnit) (own : ℕ → Bool) (vars : List PDecl) (names nam
 
   module _ (c : C) (d : CheckScope) (rel : R c d) where
     moved : (k n : ℕ) (e : PExpr) → Fits c.1.0 k e → n ≤ k + 5 → At' (check.expr_sites d n e)
-    moved k n e f le = expr-stays g own vars names names' texts c.1.0 d rel k n e le f.0 f.1
+    moved k n e f le = expr-stays (stay g own vars names names' texts c.1.0 d rel) k n e le f.0 f.1
 
     -- an assignment to a variable of what stood elsewhere
     kept : (k n : ℕ) (s : Span) (x : PSubind) (e : PExpr) (j : ℕ) → Fits c.1.0 k e → IsVariable g vars s x j → n ≤ k + 4 → At' (check.stmt_sites d n (assignment g s j e))
@@ -364,11 +365,11 @@ module _ (u : RewrittenUnit) (own : ℕ → Bool) (vars : List PDecl) (names nam
     many = λ n h. tt;
     some = λ n. tt;
     duration = λ n h. tt;
-    plain = λ c d k x i rel h. plain-stays g own vars names names' texts c.1.0 d rel k x i h.0 h.1.0;
+    plain = λ c d k x i rel h. plain-stays (stay-in g own vars names names' texts c.1.0 d rel) k k x i (omega arith) h.0 h.1.0;
     condition = λ c d k e rel h. moved c d rel k k e (h.0, h.1.0) (omega arith);
     selector = λ c d k e xs others s rel h. moved c d rel k k e (h.0, h.1.0) (omega arith);
-    choices = λ c d k e xs rel h. choices-stay g own vars names names' texts c.1.0 d rel k xs (recursion_from_All (EveryChoice r k) xs h.0.1) h.1.0;
-    loop = λ c d k w x rel h. loop-stays g own vars names names' texts c.1.0 d rel k w x h.0 h.1.0;
+    choices = λ c d k e xs rel h. choices-stay (stay g own vars names names' texts c.1.0 d rel) k k xs (omega arith) (recursion_from_All (EveryChoice r k) xs h.0.1) h.1.0;
+    loop = λ c d k w x rel h. loop-stays (stay g own vars names names' texts c.1.0 d rel) k k w x (omega arith) h.0.0 h.0.1 h.1.0;
     looping = λ c d k w x rel h. loop-around g own vars c.1.0 d w x rel;
     delay = λ c d k e f s rel h. delay-met c d rel k e f s h.1.0;
     handlers = λ hs t h. tt;
@@ -402,7 +403,7 @@ module _ (u : RewrittenUnit) (own : ℕ → Bool) (vars : List PDecl) (names nam
         );
     aborted = λ c d k n xs w rel h le. tt;
     no_abort = λ c d k rel h. tt;
-    head = λ c d k h rel i f. head-stays g own vars names names' texts c.1.0 d rel k h i.0.1 i.1.0;
+    head = λ c d k h rel i f. head-stays (stay g own vars names names' texts c.1.0 d rel) (λ x m. accept-stays g own vars names names' texts c.1.0 d rel x x refl refl m) k k h (omega arith) (tt, i.0.1) i.1.0;
     head_moved = λ c d k s h e j rel i f v.
         let deep : k + 40 ≤ 300 = shallow c.1.0 k k h.span i.1.0.0 (omega arith) in (
           met-deep names' d k h.span (omega (arith, deep)),
@@ -410,7 +411,7 @@ module _ (u : RewrittenUnit) (own : ℕ → Bool) (vars : List PDecl) (names nam
             accept-stays g own vars names names' texts c.1.0 d rel h (head_left u s h j) refl refl i.1.0.1.0,
             all_joined (IsCheckMet Any names') (check.if_there (check.expr_sites d (k + 1)) (head_left u s h j).index) (check.names_sites d (check.formal_names h.formals))
                 (index-site c d rel (k + 1) s _ j (moving g.types h.index) h.index e f v (omega (arith, deep)))
-                (formals-stay g own vars names names' texts c.1.0 d rel h.formals i.0.1.2 (all_back (IsCheckMet Original names) (check.if_there (check.expr_sites c.1.0 (k + 1)) h.index) (check.names_sites c.1.0 (check.formal_names h.formals)) i.1.0.1.1)),
+                (formals-stay (own_rules own) (IsCheckMet Original names) (IsCheckMet Any names') c.1.0 d (name-stays g own vars names names' texts c.1.0 d rel) h.formals i.0.1.2 (all_back (IsCheckMet Original names) (check.if_there (check.expr_sites c.1.0 (k + 1)) h.index) (check.names_sites c.1.0 (check.formal_names h.formals)) i.1.0.1.1)),
           ),
         );
     accept_index = λ c d k n s h e j rel i f v le. kept c d rel (k + 1) n s _ e j (head-fits c k h e i f) v (omega (arith, le));

@@ -144,4 +144,4 @@ module _ (g : Setting) (Q : PSubind → Type 0) where
       opened t x h = more-from (alternative_place x) (alternative_subtypes u x) t (alternative-fit number x) h
 
       pub unit-from : (b : PBody) → AreVariablesFrom 0 (unit_variables u b)
-      unit-from b = body-keeps (normal_rewriter u) (AreVariablesFrom 0) entered opened b [] tt
+      unit-from b = body-keeps (normal_rewriter u) (normal_rewriter u) (λ v w. AreVariablesFrom 0 v) (λ v w x h. entered v x h) (λ v w x h. opened v x h) b [] [] tt

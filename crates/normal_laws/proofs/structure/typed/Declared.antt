@@ -106,13 +106,13 @@ module _ (P : Site → Type 0) (but : (s : Site) → P s → IsMetBut s) (own : 
 
   value-stays : (range : Option Range) (e : PExpr) → IsOldExpr own e → At (value_sites c range e) → AllMetBut (value_sites d range e)
   value-stays range e o m =
-      all_joined IsMetBut (static_of d (option_map (λ (r : Range). r.kind) range) e) _ (static-stays P but own c d alike (option_map (λ (r : Range). r.kind) range) e o (all_front P (static_of c (option_map (λ (r : Range). r.kind) range) e) _ m))
-      (stays P but own c d alike (must_lie_in e range) o (all_back P (static_of c (option_map (λ (r : Range). r.kind) range) e) (site c (must_lie_in e range) ∷ []) m).0, tt)
+      all_joined IsMetBut (static_of d (option_map (λ (r : Range). r.kind) range) e) _ (static-stays P but own c d alike.names (option_map (λ (r : Range). r.kind) range) e o (all_front P (static_of c (option_map (λ (r : Range). r.kind) range) e) _ m))
+      (stays P but own c d alike.names (must_lie_in e range) o (all_back P (static_of c (option_map (λ (r : Range). r.kind) range) e) (site c (must_lie_in e range) ∷ []) m).0, tt)
 
   free-stays : (e : PExpr) → IsOldExpr own e → At (free_value_sites c e) → AllMetBut (free_value_sites d e)
   free-stays e o m =
-      all_joined IsMetBut (expr_sites d e) _ (expr-stays P but own c d alike e o (all_front P (expr_sites c e) _ m))
-      (stays P but own c d alike (must_be_static e) o (all_back P (expr_sites c e) (site c (must_be_static e) ∷ []) m).0, tt)
+      all_joined IsMetBut (expr_sites d e) _ (expr-stays P but own c d alike.names e o (all_front P (expr_sites c e) _ m))
+      (stays P but own c d alike.names (must_be_static e) o (all_back P (expr_sites c e) (site c (must_be_static e) ∷ []) m).0, tt)
 
   values-stay : (range : Option Range) (es : List PExpr) → AllByRecursion (IsOldExpr own) es → At (flat_map (value_sites c range) es) → AllMetBut (flat_map (value_sites d range) es)
   values-stay range [] o m = tt
@@ -142,13 +142,13 @@ module _ (P : Site → Type 0) (but : (s : Site) → P s → IsMetBut s) (own : 
   scalars-stay : (range : Option Range) (value : PInit) → IsOldInit own value → At (scalar_init_sites c range value ++ site c (initializes for_scalar value) ∷ []) → AllMetBut (scalar_init_sites d range value ++ site d (initializes for_scalar value) ∷ [])
   scalars-stay range value o m =
       all_joined IsMetBut (scalar_init_sites d range value) _ (scalar-stays range value o (all_front P (scalar_init_sites c range value) _ m))
-      (stays P but own c d alike (initializes for_scalar value) tt (all_back P (scalar_init_sites c range value) (site c (initializes for_scalar value) ∷ []) m).0, tt)
+      (stays P but own c d alike.names (initializes for_scalar value) tt (all_back P (scalar_init_sites c range value) (site c (initializes for_scalar value) ∷ []) m).0, tt)
 
   arrays-stay : (index : Range) (range : Option Range) (value : PInit) → IsOldInit own value → At (array_init_sites c range value ++ site c (initializes (for_array index) value) ∷ []) →
       AllMetBut (array_init_sites d range value ++ site d (initializes (for_array index) value) ∷ [])
   arrays-stay index range value o m =
       all_joined IsMetBut (array_init_sites d range value) _ (array-stays range value o (all_front P (array_init_sites c range value) _ m))
-      (stays P but own c d alike (initializes (for_array index) value) tt (all_back P (array_init_sites c range value) (site c (initializes (for_array index) value) ∷ []) m).0, tt)
+      (stays P but own c d alike.names (initializes (for_array index) value) tt (all_back P (array_init_sites c range value) (site c (initializes (for_array index) value) ∷ []) m).0, tt)
 
   init-stays : (T U : TypeTable) (m n : Marking) → SameInit T U m n → (value : PInit) → IsOldInit own value → At (init_sites c T m value) → AllMetBut (init_sites d U n value)
   init-stays T U m n (both_values i k j l range e f p q) value o h =
@@ -182,7 +182,7 @@ module _ (P : Site → Type 0) (but : (s : Site) → P s → IsMetBut s) (own : 
   no-task true = refl
   no-task false = refl
 
-  object-there : (constant : Bool) (x : PSubind) (init : Option PInit) → IsPlainMark x.mark.name → IsNoTaskThere P but own c d alike (object_marks (may_be_task c constant x.bounds init) x.bounds) x.mark
+  object-there : (constant : Bool) (x : PSubind) (init : Option PInit) → IsPlainMark x.mark.name → IsNoTaskThere P but own c d alike.names (object_marks (may_be_task c constant x.bounds init) x.bounds) x.mark
   object-there constant x init (inr e) = ap (λ b. not (allows_task (object_marks (may_be_task c constant x.bounds init) x.bounds)) || b) e ∙ no-task (not (allows_task (object_marks (may_be_task c constant x.bounds init) x.bounds)))
   object-there constant x init (inl e) =
       subst (λ b. (not (allows_task (object_marks (b && not constant && is_none x.bounds && is_none init) x.bounds)) || is_no_task (marking c x.mark.name)) ≡ true) (sym e) (by_bounds x.bounds)
@@ -191,7 +191,7 @@ module _ (P : Site → Type 0) (but : (s : Site) → P s → IsMetBut s) (own : 
       by_bounds None = refl
       by_bounds (Some b) = refl
 
-  component-there : (constant : Bool) (x : PSubind) (init : Option PInit) → IsPlainMark x.mark.name → IsNoTaskThere P but own c d alike (component_marks (may_be_task c constant x.bounds init)) x.mark
+  component-there : (constant : Bool) (x : PSubind) (init : Option PInit) → IsPlainMark x.mark.name → IsNoTaskThere P but own c d alike.names (component_marks (may_be_task c constant x.bounds init)) x.mark
   component-there constant x init (inr e) = ap (λ b. not (allows_task (component_marks (may_be_task c constant x.bounds init))) || b) e ∙ no-task (not (allows_task (component_marks (may_be_task c constant x.bounds init))))
   component-there constant x init (inl e) =
       subst (λ b. (not (allows_task (component_marks (b && not constant && is_none x.bounds && is_none init))) || is_no_task (marking c x.mark.name)) ≡ true) (sym e) refl
@@ -199,11 +199,11 @@ module _ (P : Site → Type 0) (but : (s : Site) → P s → IsMetBut s) (own : 
   shape-stays : (constant : Bool) (shape : PShape) (init : Option PInit) → IsOldShape own shape → IsPlainMark (mark_of shape) → At (shape_sites c constant shape init) → AllMetBut (shape_sites d constant shape init)
   shape-stays constant (OPlain x) init o n m =
       subst (λ b. AllMetBut (subind_sites true (object_marks b x.bounds) d x)) (sym (same-task constant x.bounds init))
-      (subind-stays P but own c d alike true (object_marks (may_be_task c constant x.bounds init) x.bounds) x o (object-there constant x init n) m)
+      (subind-stays P but own c d alike.names true (object_marks (may_be_task c constant x.bounds init) x.bounds) x o (object-there constant x init n) m)
   shape-stays constant (OArray index x) init o n m =
-      all_joined IsMetBut (drange_sites true d index) _ (drange-stays P but own c d alike true index o.0 (all_front P (drange_sites true c index) _ m))
+      all_joined IsMetBut (drange_sites true d index) _ (drange-stays P but own c d alike.names true index o.0 (all_front P (drange_sites true c index) _ m))
       (subst (λ b. AllMetBut (subind_sites true (component_marks b) d x)) (sym (same-task constant x.bounds init))
-      (subind-stays P but own c d alike true (component_marks (may_be_task c constant x.bounds init)) x o.1 (component-there constant x init n)
+      (subind-stays P but own c d alike.names true (component_marks (may_be_task c constant x.bounds init)) x o.1 (component-there constant x init n)
       (all_back P (drange_sites true c index) (subind_sites true (component_marks (may_be_task c constant x.bounds init)) c x) m)))
 
   -- an object, which is the same in both by the tables that its declarations leave
@@ -223,20 +223,20 @@ module _ (P : Site → Type 0) (but : (s : Site) → P s → IsMetBut s) (own : 
 
   pub other-stays : (x : PDecl) → IsOther x → EveryDecl (own_rules own) x → At (decl_sites c x) → AllMetBut (decl_sites d x)
   other-stays (DNumber w e s) p h m =
-      all_joined IsMetBut (names_sites true d (w ∷ [])) (static_of d (Some integer_kind) e) (names-met true (w ∷ []) d) (static-stays P but own c d alike (Some integer_kind) e (old-expr own 2 e h.2) (all_back P (names_sites true c (w ∷ [])) (static_of c (Some integer_kind) e) m))
+      all_joined IsMetBut (names_sites true d (w ∷ [])) (static_of d (Some integer_kind) e) (names-met true (w ∷ []) d) (static-stays P but own c d alike.names (Some integer_kind) e (old-expr own 2 e h.2) (all_back P (names_sites true c (w ∷ [])) (static_of c (Some integer_kind) e) m))
   other-stays (DEnumeration w ws s) p h m = names-met true (w ∷ ws) d
   other-stays (DArray w r x s) p h m =
       let first = names_sites true c (w ∷ []) in
       let second = drange_sites true c r in
       let third = subind_sites true scalar_only c x in
       all_joined IsMetBut (names_sites true d (w ∷ []) ++ drange_sites true d r) _
-      (all_joined IsMetBut (names_sites true d (w ∷ [])) (drange_sites true d r) (names-met true (w ∷ []) d) (drange-stays P but own c d alike true r (old-drange own 2 r h.2) (all_back P first second (all_front P (first ++ second) third m))))
-      (subind-stays P but own c d alike true scalar_only x (old-subind own 2 x h.3) refl (all_back P (first ++ second) third m))
+      (all_joined IsMetBut (names_sites true d (w ∷ [])) (drange_sites true d r) (names-met true (w ∷ []) d) (drange-stays P but own c d alike.names true r (old-drange own 2 r h.2) (all_back P first second (all_front P (first ++ second) third m))))
+      (subind-stays P but own c d alike.names true scalar_only x (old-subind own 2 x h.3) refl (all_back P (first ++ second) third m))
   other-stays (DSubtype w x s) p h m =
-      all_joined IsMetBut (names_sites true d (w ∷ [])) (subind_sites true scalar_only d x) (names-met true (w ∷ []) d) (subind-stays P but own c d alike true scalar_only x (old-subind own 2 x h.2) refl (all_back P (names_sites true c (w ∷ [])) (subind_sites true scalar_only c x) m))
+      all_joined IsMetBut (names_sites true d (w ∷ [])) (subind_sites true scalar_only d x) (names-met true (w ∷ []) d) (subind-stays P but own c d alike.names true scalar_only x (old-subind own 2 x h.2) refl (all_back P (names_sites true c (w ∷ [])) (subind_sites true scalar_only c x) m))
   other-stays (DException ws s) p h m = names-met true ws d
-  other-stays (DIntIo w s) p h m = (stays P but own c d alike (makes_instance w) tt m.0, names-met true (w ∷ []) d)
-  other-stays (DPragma e s) p h m = static-stays P but own c d alike (Some integer_kind) e (old-expr own 2 e h.1) m
+  other-stays (DIntIo w s) p h m = (stays P but own c d alike.names (makes_instance w) tt m.0, names-met true (w ∷ []) d)
+  other-stays (DPragma e s) p h m = static-stays P but own c d alike.names (Some integer_kind) e (old-expr own 2 e h.1) m
   other-stays (DObject names constant shape init s) p h m = absurd p
   other-stays (DTask t s) p h m = absurd p
   other-stays (DTaskBody w objects its s) p h m = absurd p

@@ -21,10 +21,10 @@ use Rattle.task_laws.specs.legal.sites.Met.{IsMet}
 use Rattle.normal_laws.specs.structure.asked.Pieces.{IsPlain}
 use Rattle.task_laws.specs.legal.rewritten_types.Rewriting.{is_no_task}
 use Rattle.normal_laws.specs.structure.checked.Around.{own_rules}
-use Rattle.task_laws.specs.legal.alike_scopes.Alike.{Alike}
-use Rattle.task_laws.specs.legal.alike_scopes.Old.{IsOldWord, IsOldExpr, IsOldBounds, IsOldSubind, IsOldDrange, IsOldTarget, IsOldChoice, AreOldFormals, allows_task, IsOldDemand}
+use Rattle.task_laws.specs.legal.alike_scopes.Alike.{SameNames, Alike}
+use Rattle.task_laws.specs.legal.alike_scopes.Old.{IsOldWord, IsOldExpr, IsOldBounds, IsOldSubind, IsOldDrange, IsOldTarget, IsOldChoice, AreOldFormals, allows_task}
 use Rattle.task_laws.specs.legal.alike_scopes.Laws.{IsMetBut}
-use Rattle.task_laws.proofs.legal.alike_scopes.Demands.{alike_refuses_same}
+use Rattle.task_laws.proofs.legal.alike_scopes.Demands.{IsPlainDemand, names-refuse-same, alike_refuses_same}
 use Rattle.task_laws.proofs.legal.alike_scopes.Exprs.{exprs_are_same, dranges_are_same}
 use Rattle.task_laws.proofs.legal.alike_scopes.Selectors.{selectors_are_same, targets_are_same}
 use Rattle.normal_laws.proofs.structure.typed.Places.{met-declares, met-labels}
@@ -117,17 +117,17 @@ no-array P but c (EUnary op e s) h = refl
 no-array P but c (EBinary op x y s) h = refl
 
 -- with whatever is known of each place, where it says that none of these rules refuses anything there
-module _ (P : Site → Type 0) (but : (s : Site) → P s → IsMetBut s) (own : ℕ → Bool) (c d : Scope) (alike : Alike own c d) where
+module _ (P : Site → Type 0) (but : (s : Site) → P s → IsMetBut s) (own : ℕ → Bool) (c d : Scope) (names : SameNames own c d) where
   abbrev r' : Rules
   r' = own_rules own
 
   abbrev At : List Site → Type 0
   At xs = AllByRecursion P xs
 
-  pub stays-but : (x : Demand) → IsOldDemand own c x → IsMetBut (site c x) → IsMetBut (site d x)
-  stays-but x o m = alike_refuses_same own c d alike x o m
+  pub stays-but : (x : Demand) → IsPlainDemand own c d names x → IsMetBut (site c x) → IsMetBut (site d x)
+  stays-but x o m = names-refuse-same own c d names x o m
 
-  pub stays : (x : Demand) → IsOldDemand own c x → P (site c x) → IsMetBut (site d x)
+  pub stays : (x : Demand) → IsPlainDemand own c d names x → P (site c x) → IsMetBut (site d x)
   stays x o m = stays-but x o (but (site c x) m)
 
   -- ---- expressions
@@ -140,7 +140,7 @@ module _ (P : Site → Type 0) (but : (s : Site) → P s → IsMetBut s) (own : 
   expr-stays e o m = (stays (whole e) o m.0, nodes-stay (nodes e) (old-nodes own e o) m.1)
 
   pub kind-stays : (e : PExpr) → IsOldExpr own e → kind_of c e ≡ kind_of d e
-  kind-stays e o = (exprs_are_same own c d alike.names e o).kind
+  kind-stays e o = (exprs_are_same own c d names e o).kind
 
   pub of-stays : (k : Option ℕ) (e : PExpr) → IsOldExpr own e → At (expr_of c k e) → AllMetBut (expr_of d k e)
   of-stays k e o m =
@@ -244,7 +244,7 @@ module _ (P : Site → Type 0) (but : (s : Site) → P s → IsMetBut s) (own : 
 
   -- the kind of a mark
   mark-kind : (w : Word) → IsOldWord own w → scalar_kind (marking c w.name) ≡ scalar_kind (marking d w.name)
-  mark-kind w o = (dranges_are_same own c d alike.names (RMarked record { mark = w; bounds = None }) (o, tt)).kind
+  mark-kind w o = (dranges_are_same own c d names (RMarked record { mark = w; bounds = None }) (o, tt)).kind
 
   -- the marks that are allowed there include no task type, or the mark is none
   abbrev pub IsNoTaskThere : MarkUse → Word → Type 0
@@ -318,7 +318,7 @@ module _ (P : Site → Type 0) (but : (s : Site) → P s → IsMetBut s) (own : 
       At (flat_map (choice_sites c (kind_of c e) (selected_range c e)) xs) → AllMetBut (flat_map (choice_sites d (kind_of d e) (selected_range d e)) xs)
   choices-stay e xs o q os m =
       subst (λ k. AllMetBut (flat_map (choice_sites d k (selected_range d e)) xs)) (kind-stays e o)
-      (subst (λ range. AllMetBut (flat_map (choice_sites d (kind_of c e) range) xs)) (selectors_are_same own c d alike.names e o q) (choices-same (kind_of c e) (selected_range c e) xs os m))
+      (subst (λ range. AllMetBut (flat_map (choice_sites d (kind_of c e) range) xs)) (selectors_are_same own c d names e o q) (choices-same (kind_of c e) (selected_range c e) xs os m))
 
   pub selector-stays : (e : PExpr) (xs : List PChoice) (others : Bool) (s : Span) → IsOldExpr own e → AllByRecursion (IsOldChoice own) xs → At (site c (chooses e xs others s) ∷ expr_sites c e) → AllMetBut (site d (chooses e xs others s) ∷ expr_sites d e)
   selector-stays e xs others s o os m = (stays (chooses e xs others s) (o, os) m.0, expr-stays e o m.1)
@@ -338,23 +338,9 @@ module _ (P : Site → Type 0) (but : (s : Site) → P s → IsMetBut s) (own : 
       all_joined IsMetBut (expr_of d (Some range.kind) e) _ (of-stays (Some range.kind) e o (all_front P (expr_of c (Some range.kind) e) _ m))
       (stays (must_lie_in e (Some range)) o (all_back P (expr_of c (Some range.kind) e) (site c (must_lie_in e (Some range)) ∷ []) m).0, tt)
 
-  index-stays : (entry : Option EntryPart) (e : PExpr) → IsOldExpr own e → At (accept_index_sites c entry e) → AllMetBut (accept_index_sites d entry e)
+  pub index-stays : (entry : Option EntryPart) (e : PExpr) → IsOldExpr own e → At (accept_index_sites c entry e) → AllMetBut (accept_index_sites d entry e)
   index-stays None e o m = expr-stays e o m
   index-stays (Some entry) e o m = family-stays entry entry.family e o m
-
-  pub head-stays : (k : ℕ) (h : PHead) → EveryHead r' k h → is_some (entry_named c.own h.entry.name) ≡ true → At (head_sites c h) → AllMetBut (head_sites d h)
-  head-stays k h i mine m =
-      let entry = entry_named c.own h.entry.name in
-      let same : entry ≡ entry_named d.own h.entry.name = alike.own h.entry.name i.0 in (
-        stays (accepts h) (i.0, mine) m.0,
-        all_joined IsMetBut (if_there (accept_index_sites d (entry_named d.own h.entry.name)) h.index) _
-            (subst (λ q. AllMetBut (if_there (accept_index_sites d q) h.index)) same (by_index h.index (old-option own (k + 1) h.index i.1) (all_front P (if_there (accept_index_sites c entry) h.index) _ m.1)))
-            (formals-stay h.formals (old-formals own h.formals (recursion_from_All (EveryFormal r') h.formals i.2)) (all_back P (if_there (accept_index_sites c entry) h.index) _ m.1)),
-      )
-    where
-      by_index : (o : Option PExpr) → IfSome o (IsOldExpr own) → At (if_there (accept_index_sites c (entry_named c.own h.entry.name)) o) → AllMetBut (if_there (accept_index_sites d (entry_named c.own h.entry.name)) o)
-      by_index None p q = tt
-      by_index (Some e) p q = index-stays (entry_named c.own h.entry.name) e p q
 
   -- ---- statements
 
@@ -371,7 +357,7 @@ module _ (P : Site → Type 0) (but : (s : Site) → P s → IsMetBut s) (own : 
   plain-stays k (SAssign t e s) p h m =
       let o = old-expr own (k + 1) e h.2 in
       all_joined IsMetBut (target_sites d t) _ (target-stays (k + 1) t h.1 (all_front P (target_sites c t) _ m))
-      (subst (λ q. AllMetBut (expr_of d q e)) (targets_are_same own c d alike.names t (old-target (k + 1) t h.1)) (of-stays (target_kind c t) e o (all_back P (target_sites c t) (expr_of c (target_kind c t) e) m)))
+      (subst (λ q. AllMetBut (expr_of d q e)) (targets_are_same own c d names t (old-target (k + 1) t h.1)) (of-stays (target_kind c t) e o (all_back P (target_sites c t) (expr_of c (target_kind c t) e) m)))
   plain-stays k (SDelay n s) p h m = tt
   plain-stays k (SExit w e s) p h m = when-stays e (old-option own (k + 1) e h.2) m
   plain-stays k (SRaise w s) p h m = exception-stays w h.1 m
@@ -391,3 +377,20 @@ module _ (P : Site → Type 0) (but : (s : Site) → P s → IsMetBut s) (own : 
   plain-stays k (SCase e x o s) p h m = absurd p
   plain-stays k (SBlock x s) p h m = absurd p
   plain-stays k (SLoop w x l s) p h m = absurd p
+
+-- ---- heads of accepts
+
+module _ (P : Site → Type 0) (but : (s : Site) → P s → IsMetBut s) (own : ℕ → Bool) (c d : Scope) (alike : Alike own c d) where
+  pub head-stays : (k : ℕ) (h : PHead) → EveryHead (own_rules own) k h → is_some (entry_named c.own h.entry.name) ≡ true → AllByRecursion P (head_sites c h) → AllMetBut (head_sites d h)
+  head-stays k h i mine m =
+      let entry = entry_named c.own h.entry.name in
+      let same : entry ≡ entry_named d.own h.entry.name = alike.own h.entry.name i.0 in (
+        alike_refuses_same own c d alike (accepts h) (i.0, mine) (but (site c (accepts h)) m.0),
+        all_joined IsMetBut (if_there (accept_index_sites d (entry_named d.own h.entry.name)) h.index) _
+            (subst (λ q. AllMetBut (if_there (accept_index_sites d q) h.index)) same (by_index h.index (old-option own (k + 1) h.index i.1) (all_front P (if_there (accept_index_sites c entry) h.index) _ m.1)))
+            (formals-stay P but own c d alike.names h.formals (old-formals own h.formals (recursion_from_All (EveryFormal (own_rules own)) h.formals i.2)) (all_back P (if_there (accept_index_sites c entry) h.index) _ m.1)),
+      )
+    where
+      by_index : (o : Option PExpr) → IfSome o (IsOldExpr own) → AllByRecursion P (if_there (accept_index_sites c (entry_named c.own h.entry.name)) o) → AllMetBut (if_there (accept_index_sites d (entry_named c.own h.entry.name)) o)
+      by_index None p q = tt
+      by_index (Some e) p q = index-stays P but own c d alike.names (entry_named c.own h.entry.name) e p q

@@ -155,10 +155,10 @@ module _ (u : RewrittenUnit) (own : ℕ → Bool) (vars : List PDecl) (entries :
     there s x j v = (rel.variables s x j v).0
 
     stay : (e : PExpr) → IsOldExpr own e → At (expr_sites s0 e) → AllMetBut (expr_sites d e)
-    stay e o m = expr-stays P but own s0 d rel.alike e o m
+    stay e o m = expr-stays P but own s0 d rel.alike.names e o m
 
     same-kind : (e : PExpr) → IsOldExpr own e → kind_of s0 e ≡ kind_of d e
-    same-kind e o = kind-stays P but own s0 d rel.alike e o
+    same-kind e o = kind-stays P but own s0 d rel.alike.names e o
 
     -- `DED_V1 := e;`, where nothing is refused in e
     put : (s : Span) (x : PSubind) (j k : ℕ) (v : IsVariableOf g.types d (variable_name g j) x) → v.mark.kind ≡ k → (e : PExpr) → IsOldExpr own e → AllMetBut (expr_sites d e) → of_other_kind s0 (Some k) e ≡ [] →
@@ -265,7 +265,7 @@ module _ (u : RewrittenUnit) (own : ℕ → Bool) (vars : List PDecl) (entries :
       read-stays Take e f o m = stay e o m
       read-stays Give e f o m = absurd (true≢false (sym f))
       read-stays Both (EName id s) f o m =
-          (met-whole d (EName id s) refl, (stays-but P but own s0 d rel.alike (node false (EName id s)) o (both-read s0 id s (met-but (site s0 (is_actual Both (EName id s))) m.0.0)), tt))
+          (met-whole d (EName id s) refl, (stays-but P but own s0 d rel.alike.names (node false (EName id s)) o (both-read s0 id s (met-but (site s0 (is_actual Both (EName id s))) m.0.0)), tt))
       read-stays Both (EInteger n s) f o m = stay (EInteger n s) o m.1
       read-stays Both (EIndex w e s) f o m = stay (EIndex w e s) o m.1
       read-stays Both (EAttribute y w s) f o m = stay (EAttribute y w s) o m.1
@@ -298,7 +298,7 @@ module _ (u : RewrittenUnit) (own : ℕ → Bool) (vars : List PDecl) (entries :
           let other : is_other_kind (kind_of s0 (EName id t)) (Some q.kind) ≡ false = other-turned q.kind (kind_of s0 (EName id t)) (no-place (is_other_kind (Some q.kind) (kind_of s0 (EName id t))) t q.fits.0.matched) in
           let fits : of_other_kind d (target_kind d (actual_target id t)) (variable g s j) ≡ [] =
           (ap₂ (λ y z. if is_other_kind y z then s ∷ [] else []) target (variable-kind is s ∙ ap Some kind) ∙ ap (λ y. if y then s ∷ [] else []) other) in
-          let writes-met : AllMetBut (target_sites d (actual_target id t)) = (stays-but P but own s0 d rel.alike (writes (actual_target id t)) (o, tt) (written-met q.mode id t (ap is_written q.is ∙ f) q.sites), tt) in
+          let writes-met : AllMetBut (target_sites d (actual_target id t)) = (stays-but P but own s0 d rel.alike.names (writes (actual_target id t)) (o, tt) (written-met q.mode id t (ap is_written q.is ∙ f) q.sites), tt) in
           all_joined IsMetBut (target_sites d (actual_target id t)) (expr_sites d (variable g s j) ++ site d (must_be_of (variable g s j) (target_kind d (actual_target id t))) ∷ []) writes-met
           (all_joined IsMetBut (expr_sites d (variable g s j)) (site d (must_be_of (variable g s j) (target_kind d (actual_target id t))) ∷ []) (variable-met is s) (met-of d (variable g s j) (target_kind d (actual_target id t)) fits, tt))
         where
@@ -330,7 +330,7 @@ module _ (u : RewrittenUnit) (own : ℕ → Bool) (vars : List PDecl) (entries :
       new-head =
           head-moved u own vars known s0 d rel h e (moves g.types h.index e f) i.1.0 mine (sym (rel.alike.own h.entry.name i.0.1.0)) s j (ap (λ o. index_left g s j o h.index) f)
           (there s (subtype_of_range g.types s (family_range g (entry_of g.numbers u.task h.entry.name))) j v)
-          (formals-stay P but own s0 d rel.alike h.formals (old-formals own h.formals (recursion_from_All (EveryFormal r) h.formals i.0.1.2))
+          (formals-stay P but own s0 d rel.alike.names h.formals (old-formals own h.formals (recursion_from_All (EveryFormal r) h.formals i.0.1.2))
           (all_back P (if_there (accept_index_sites s0 (entry_named s0.own h.entry.name)) h.index) (formals_sites s0 h.formals) i.1.0.1))
 
     -- ---- guards
@@ -368,15 +368,15 @@ module _ (u : RewrittenUnit) (own : ℕ → Bool) (vars : List PDecl) (entries :
     many = λ n h. tt;
     some = λ n. tt;
     duration = λ n h. tt;
-    plain = λ c d k x i rel h. plain-stays P but own c.1.0 d rel.0.alike k x i h.0 h.1.0;
-    condition = λ c d k e rel h. condition-stays P but own c.1.0 d rel.0.alike e (old-expr own k e h.0) h.1.0;
-    selector = λ c d k e xs others s rel h. selector-stays P but own c.1.0 d rel.0.alike e xs others s (old-expr own k e h.0.0) h.1 h.0.1.0;
-    choices = λ c d k e xs rel h. choices-stay P but own c.1.0 d rel.0.alike e xs h.1.0 h.1.1 (old-choices own k xs (recursion_from_All (EveryChoice r k) xs h.0.0.1)) h.0.1.0;
-    loop = λ c d k w x rel h. loop-stays P but own c.1.0 d rel.0.alike k w x h.0.1 h.1.0;
+    plain = λ c d k x i rel h. plain-stays P but own c.1.0 d rel.0.alike.names k x i h.0 h.1.0;
+    condition = λ c d k e rel h. condition-stays P but own c.1.0 d rel.0.alike.names e (old-expr own k e h.0) h.1.0;
+    selector = λ c d k e xs others s rel h. selector-stays P but own c.1.0 d rel.0.alike.names e xs others s (old-expr own k e h.0.0) h.1 h.0.1.0;
+    choices = λ c d k e xs rel h. choices-stay P but own c.1.0 d rel.0.alike.names e xs h.1.0 h.1.1 (old-choices own k xs (recursion_from_All (EveryChoice r k) xs h.0.0.1)) h.0.1.0;
+    loop = λ c d k w x rel h. loop-stays P but own c.1.0 d rel.0.alike.names k w x h.0.1 h.1.0;
     looping = λ c d k w x rel h. (loop-scope u own vars c.1.0 d k x h.0.1 (all_back P _ (if_there (scheme_sites c.1.0) x) h.1.0) rel.0, loop-own u own vars c.1.0 x ∙ rel.1);
     delay = λ c d k e f s rel h. tt;
     handlers = λ hs t h. tt;
-    handler = λ c d k ids ws rel h. handler-stays P but own c.1.0 d rel.0.alike ids ws (recursion_from_All (EveryWord r) ws h.0) h.1.0;
+    handler = λ c d k ids ws rel h. handler-stays P but own c.1.0 d rel.0.alike.names ids ws (recursion_from_All (EveryWord r) ws h.0) h.1.0;
     handling = λ c d rel. rel;
     null = λ c d k n s rel h le. tt;
     program_error = λ c d k n s rel h le. raised c d rel.0 s;

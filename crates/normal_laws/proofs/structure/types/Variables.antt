@@ -119,7 +119,7 @@ module _ (P : PDecl → Type 0) (u : RewrittenUnit) (each : (s : Span) (x : PSub
   statement-all vars (SLoop w c l s) h = h
 
   pub unit-all : (b : PBody) → AllByRecursion P (unit_variables u b)
-  unit-all b = body-keeps (normal_rewriter u) (AllByRecursion P) statement-all (λ vars x h. more-all _ _ vars h) b [] tt
+  unit-all b = body-keeps (normal_rewriter u) (normal_rewriter u) (λ v w. AllByRecursion P v) (λ v w x h. statement-all v x h) (λ v w x h. more-all _ _ v h) b [] [] tt
 
 -- the variables of a unit have new names
 pub unit-new : (old : ℕ → Bool) (u : RewrittenUnit) → ((k : ℕ) → old (variable_name u.setting k).0 ≡ false) → (b : PBody) → AllByRecursion (IsAdded old) (unit_variables u b)

@@ -1,4 +1,5 @@
--- A demand that speaks of old names alone, and is met in one of two scopes that are alike, is met in the other.
+-- A demand that speaks of old names alone, and is met in one of two scopes that are alike, is met in the other; if it is no accept, also where only the
+-- names mean the same, whatever entries the own task has.
 use Rattle.std.proofs.Common.{◌≡◌, ℕ, Bool, true, not, ◌&&◌, ◌||◌, if◌then◌else◌, List, [], ◌∷◌, Option, Some, None, IfSome, is_some, ⊎_elim, refl, sym, ap, ap₂, ◌∙◌}
 use Rattle.std.specs.List.{AllByRecursion}
 use Rattle.common_lemmas.proofs.Lists.{not_empty}
@@ -11,7 +12,7 @@ use Rattle.ada_tree.specs.PlainExpr.{PExpr, EInteger, EName, EIndex, EAttribute,
 use Rattle.ada_tree.specs.PlainStmt.{PTarget, PChoice, PHead}
 use Rattle.ada_static_rules.specs.Scope.{Scope, Range, integer_kind, reading, marking, meaning, entry_named, is_entry_somewhere}
 use Rattle.ada_static_rules.specs.ExprTypes.{expr_place, kind_of, is_other_kind}
-use Rattle.ada_static_rules.specs.Demand.{MarkUse, declares, declares_entry, labels, gives_body, makes_instance, stands_as_mark, whole, node, must_be_of, must_be_alike, must_be_static, must_not_be_empty, must_lie_in, writes, gets, is_actual, addresses, calls, accepts, names_exception, handles, chooses, initializes, is_written}
+use Rattle.ada_static_rules.specs.Demand.{MarkUse, Demand, declares, declares_entry, labels, gives_body, makes_instance, stands_as_mark, whole, node, must_be_of, must_be_alike, must_be_static, must_not_be_empty, must_lie_in, writes, gets, is_actual, addresses, calls, accepts, names_exception, handles, chooses, initializes, is_written}
 use Rattle.ada_static_rules.specs.Sites.{site}
 use Rattle.ada_static_rules.specs.RuleMismatch.{of_other_kind}
 use Rattle.ada_static_rules.specs.RuleNotVariable.{unless, whole_written}
@@ -21,7 +22,7 @@ use Rattle.ada_static_rules.specs.RuleReadOut.{read_out}
 use Rattle.ada_static_rules.specs.RuleChoiceBad.{bad_choices}
 use Rattle.task_laws.specs.legal.rewritten_types.Rewriting.{is_no_task}
 use Rattle.task_laws.specs.legal.alike_scopes.Alike.{SameNames}
-use Rattle.task_laws.specs.legal.alike_scopes.Old.{IsOldExpr, IsOldTarget, IsOldChoice, allows_task}
+use Rattle.task_laws.specs.legal.alike_scopes.Old.{IsOldExpr, IsOldTarget, IsOldChoice, allows_task, IsOldDemand}
 use Rattle.task_laws.specs.legal.alike_scopes.Laws.{IsMetBut, AlikeRefusesSame}
 use Rattle.task_laws.proofs.legal.alike_scopes.Exprs.{read-same, kind-same, expr-same, static-in-same}
 use Rattle.task_laws.proofs.legal.alike_scopes.Faces.{SameFace, AreNoValues, index-same, whole-same, array-same, no-variable-at, no-variable-there, no-exception-there, no-type-there}
@@ -263,6 +264,39 @@ module _ (old : ℕ → Bool) (s t : Scope) (n : SameNames old s t) where
     texts = refl;
     exceptions = refl;
   }
+
+  -- ---- all but accepts
+
+  -- a demand of old names that is no accept
+  abbrev pub IsPlainDemand : Demand → Type 0
+  IsPlainDemand (accepts h) = ⊥
+  IsPlainDemand x = IsOldDemand old s x
+
+  pub names-refuse-same : (x : Demand) → IsPlainDemand x → IsMetBut (site s x) → IsMetBut (site t x)
+  names-refuse-same (stands_as_mark u w) o h = mark-met u w o.0 o.1 h
+  names-refuse-same (whole e) o h = whole-met old s t n e o h
+  names-refuse-same (node b e) o h = node-met old s t n b e o h
+  names-refuse-same (must_be_of e k) o h = of-met e k o h
+  names-refuse-same (must_be_alike x y) o h = alike-met x y o.0 o.1 h
+  names-refuse-same (must_be_static e) o h = static-met e o h
+  names-refuse-same (must_not_be_empty x y) o h = empty-met x y o.0 o.1 h
+  names-refuse-same (must_lie_in e r) o h = lie-met e r o h
+  names-refuse-same (writes x) o h = target-met x.name x.index o.0 o.1 h
+  names-refuse-same (gets x) o h = gets-met x o h
+  names-refuse-same (is_actual mode e) o h = actual-met mode e o h
+  names-refuse-same (accepts x) o h = absurd o
+  names-refuse-same (names_exception w) o h = exception-met w o h
+  names-refuse-same (chooses e cs others sp) o h = case-met e cs others sp o.0 o.1 h
+  names-refuse-same (declares fixed w) o h = record { known = refl; matched = refl; static = refl; ranged = refl; variable = refl; readable = refl; counted = refl; chosen = refl; arrays = refl; texts = refl; exceptions = refl }
+  names-refuse-same (declares_entry names w) o h = record { known = refl; matched = refl; static = refl; ranged = refl; variable = refl; readable = refl; counted = refl; chosen = refl; arrays = refl; texts = refl; exceptions = refl }
+  names-refuse-same (labels w) o h = record { known = refl; matched = refl; static = refl; ranged = refl; variable = refl; readable = refl; counted = refl; chosen = refl; arrays = refl; texts = refl; exceptions = refl }
+  names-refuse-same (makes_instance w) o h = record { known = refl; matched = refl; static = refl; ranged = refl; variable = refl; readable = refl; counted = refl; chosen = refl; arrays = refl; texts = refl; exceptions = refl }
+  names-refuse-same (handles names w) o h = record { known = refl; matched = refl; static = refl; ranged = refl; variable = refl; readable = refl; counted = refl; chosen = refl; arrays = refl; texts = refl; exceptions = refl }
+  names-refuse-same (initializes what value) o h = record { known = refl; matched = refl; static = refl; ranged = refl; variable = refl; readable = refl; counted = refl; chosen = refl; arrays = h.arrays; texts = refl; exceptions = refl }
+  names-refuse-same (is_written alone e) o h = record { known = refl; matched = refl; static = refl; ranged = refl; variable = refl; readable = refl; counted = refl; chosen = refl; arrays = refl; texts = h.texts; exceptions = refl }
+  names-refuse-same (gives_body w) o h = absurd o
+  names-refuse-same (addresses c) o h = absurd o
+  names-refuse-same (calls c) o h = absurd o
 
 -- ---- accepts
 
