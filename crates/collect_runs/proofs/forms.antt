@@ -5,6 +5,7 @@ pub mod Finding
 pub mod Formals
 pub mod Old
 pub mod Objects
+pub mod Among
 pub mod Bodies
 pub mod Units
 pub mod Starting

@@ -3,7 +3,6 @@ pub mod Noting
 pub mod Hearing
 pub mod Pairs
 pub mod Ending
-pub mod Copying
 pub mod Calling
 pub mod Opening
 pub mod Choosing

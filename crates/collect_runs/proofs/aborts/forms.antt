@@ -1,12 +1,10 @@
 pub mod Numbers
 pub mod Keeping
 pub mod Tables
-pub mod Members
 pub mod Old
 pub mod Finding
 pub mod Formals
 pub mod Forming
-pub mod Objects
 pub mod Bodies
 pub mod Units
 pub mod Places

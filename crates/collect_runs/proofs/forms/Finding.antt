@@ -39,7 +39,8 @@ use Rattle.collect_structure.specs.Names.{added_id, kept_name, kept_names}
 use Rattle.collect_structure.specs.checked.Checkable.{IsCheckable}
 use Rattle.collect_structure.proofs.checked.Names.{kept-other}
 use Rattle.collect_structure.proofs.texts.Numbered.{place-none}
-use Rattle.collect_structure.proofs.texts.Listed.{recorder_tasks, collect-tasks}
+use Rattle.collect_structure.proofs.texts.Rooted.{collect-tasks}
+use Rattle.collect_structure.proofs.texts.Telling.{recorder_tasks}
 use Rattle.collect_structure.proofs.legal.Values.{same-values}
 use Rattle.collect_structure.proofs.legal.Checkable.{legal_is_checkable}
 use Rattle.ada_static_rules.specs.StaticValue.{is_named}
@@ -50,16 +51,12 @@ use Rattle.std.specs.Option.{option_map_or}
 use Rattle.collect_runs.specs.telling.Texts.{CanTell}
 use Rattle.collect_runs.specs.starts.Texts.{text_for, text_setting, names_added, recorder_number, note_number, texts_of}
 use Rattle.collect_runs.proofs.forms.Tables.{kept_for, names_are_added, types_agree}
+use Rattle.common_lemmas.proofs.Lists.{last_at, all_by_place}
 
 -- ---- lists
 
--- what holds at each place holds of all
-all-places : {A : Type 0} (P : A → Type 0) (xs : List A) → ((i : ℕ) (y : A) → slice_get xs i ≡ Some y → P y) → AllByRecursion P xs
-all-places P [] h = tt
-all-places P (y ∷ xs) h = (h 0 y refl, all-places P xs (λ i z e. h (suc i) z e))
-
 -- what is found behind others that do not pass
-find-past : {A : Type 0} (test : A → Bool) (xs ys : List A) → AllByRecursion (λ x. test x ≡ false) xs → find test (xs ++ ys) ≡ find test ys
+pub find-past : {A : Type 0} (test : A → Bool) (xs ys : List A) → AllByRecursion (λ x. test x ≡ false) xs → find test (xs ++ ys) ≡ find test ys
 find-past test [] ys h = refl
 find-past test (x ∷ xs) ys h = ap (λ c. cond c (Some x) (find test (xs ++ ys))) h.0 ∙ find-past test xs ys h.1
 
@@ -67,14 +64,10 @@ find-past test (x ∷ xs) ys h = ap (λ c. cond c (Some x) (find test (xs ++ ys)
 position-last : {A : Type 0} (test : A → Bool) (xs : List A) (y : A) → AllByRecursion (λ x. test x ≡ false) xs → test y ≡ true → position test (xs ++ y ∷ []) ≡ Some (length xs)
 position-last test xs y none it = position_push test xs y ∙ ap₂ (λ o (c : Bool). first_of_two o (if c then Some (length xs) else None)) (place-none test xs none) it
 
-there-last : {A : Type 0} (xs : List A) (y : A) → slice_get (xs ++ y ∷ []) (length xs) ≡ Some y
-there-last [] y = refl
-there-last (x ∷ xs) y = there-last xs y
-
 -- ---- tasks with kept names
 
 module _ (q : PProgram) where
-  tasks-kept : (ds : List PDecl) → AllByRecursion (EveryDecl (kept_names q)) ds → AllByRecursion (λ (t : PTask). kept_name q t.name.name.0 ≡ true) (tasks_in ds)
+  pub tasks-kept : (ds : List PDecl) → AllByRecursion (EveryDecl (kept_names q)) ds → AllByRecursion (λ (t : PTask). kept_name q t.name.name.0 ≡ true) (tasks_in ds)
   tasks-kept [] h = tt
   tasks-kept (DTask t s ∷ ds) h = (h.0.1.0, tasks-kept ds h.1)
   tasks-kept (DTaskBody w objects its s ∷ ds) h = tasks-kept ds h.1
@@ -112,7 +105,7 @@ module _ (p : PProgram) (h : IsLegalOriginal p) where
   pub checkable : IsCheckable (form_in p)
   checkable = legal_is_checkable p h (same-values p (types_in p) (numbers_of p) (facts.ordered p h) (facts.olds p h).2)
 
-  named : AllByRecursion (λ (t : PTask). kept_name q t.name.name.0 ≡ true) (tasks_of q)
+  pub named : AllByRecursion (λ (t : PTask). kept_name q t.name.name.0 ≡ true) (tasks_of q)
   named = tasks-kept q (decl_list q.decls) checkable.declared
 
   -- no task of the normal form has the recorder's name
@@ -131,7 +124,7 @@ module _ (p : PProgram) (h : IsLegalOriginal p) where
 
   -- no entry of the normal form is the recorder's
   entries-other : AllByRecursion (λ (i : EntryInfo). ((i.owner == recorder_number p) && (i.name.0 == noted.0)) ≡ false) F.entries
-  entries-other = all-places (λ (i : EntryInfo). ((i.owner == recorder_number p) && (i.name.0 == noted.0)) ≡ false) F.entries each
+  entries-other = all_by_place (λ (i : EntryInfo). ((i.owner == recorder_number p) && (i.name.0 == noted.0)) ≡ false) F.entries each
     where
       each : (k : ℕ) (i : EntryInfo) → slice_get F.entries k ≡ Some i → ((i.owner == recorder_number p) && (i.name.0 == noted.0)) ≡ false
       each k i at =
@@ -149,27 +142,27 @@ module _ (p : PProgram) (h : IsLegalOriginal p) where
       ∙ ap Some (let e : length F.entries + 1 ≡ suc (length F.entries) = omega arith in e)
 
   note-at : entry_at U.numbers (note_number p) ≡ Some (note_info (names_added p) (last_task F))
-  note-at = entry-suc U.numbers (length F.entries) ∙ there-last F.entries (note_info (names_added p) (last_task F))
+  note-at = entry-suc U.numbers (length F.entries) ∙ last_at F.entries (note_info (names_added p) (last_task F))
 
   pub recorder-there : task_at U.numbers (recorder_number p) ≡ Some (recorder_info (names_added p))
-  recorder-there = there-last F.tasks (recorder_info (names_added p))
+  recorder-there = last_at F.tasks (recorder_info (names_added p))
 
   recorder-at : task_at U.numbers (last_task F + 1) ≡ Some (recorder_info (names_added p))
   recorder-at = ap (task_at U.numbers) last-is ∙ recorder-there
 
   -- ---- the tasks of the text
 
-  pub text-tasks : tasks_of (text_for p) ≡ map (task_telling (names_added p)) (tasks_of q) ++ recorder_tasks x q
+  pub text-tasks : tasks_of (text_for p) ≡ map (task_telling (names_added p)) (tasks_of q) ++ recorder_tasks (names_added p) q
   text-tasks = ap tasks_in (listed_back (collect_decls x q (decl_list q.decls))) ∙ collect-tasks x q
 
   told-other : (ts : List PTask) → AllByRecursion (λ (t : PTask). (t.name.name.0 == rec.0) ≡ false) ts → AllByRecursion (λ (t : PTask). (t.name.name.0 == rec.0) ≡ false) (map (task_telling (names_added p)) ts)
   told-other [] k = tt
   told-other (t ∷ ts) k = (k.0, told-other ts k.1)
 
-  recorder-unit : unit_named (text_for p) rec ≡ find (λ (t : PTask). t.name.name.0 == rec.0) (recorder_tasks x q)
+  recorder-unit : unit_named (text_for p) rec ≡ find (λ (t : PTask). t.name.name.0 == rec.0) (recorder_tasks (names_added p) q)
   recorder-unit =
       ap (find (λ (t : PTask). t.name.name.0 == rec.0)) text-tasks
-      ∙ find-past (λ (t : PTask). t.name.name.0 == rec.0) (map (task_telling (names_added p)) (tasks_of q)) (recorder_tasks x q) (told-other (tasks_of q) (tasks-other (tasks_of q) named))
+      ∙ find-past (λ (t : PTask). t.name.name.0 == rec.0) (map (task_telling (names_added p)) (tasks_of q)) (recorder_tasks (names_added p) q) (told-other (tasks_of q) (tasks-other (tasks_of q) named))
 
   -- the recorder's declaration
   abbrev note_entry : PEntry

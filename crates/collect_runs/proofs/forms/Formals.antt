@@ -1,5 +1,5 @@
 -- The entries of the program have one formal more in the collecting text of a legal program, that of their caller.
-use Rattle.std.proofs.Common.{◌≡◌, ◌==◌, ◌-◌, ◌+◌, arith, ℕ, zero, suc, Bool, true, false, if◌then◌else◌, List, [], ◌∷◌, ◌++◌, map, find, slice_get, Option, Some, None, option_map, refl, sym, ap, ap₂, subst, ◌∙◌}
+use Rattle.std.proofs.Common.{◌≡◌, ◌==◌, ◌-◌, ◌+◌, arith, ℕ, suc, Bool, true, false, if◌then◌else◌, List, [], ◌∷◌, ◌++◌, map, find, slice_get, Option, Some, None, option_map, refl, sym, ap, ap₂, subst, ◌∙◌}
 use Rattle.std.specs.List.{AllByRecursion}
 use Rattle.std.proofs.lemmas.List.{map-append}
 use Rattle.std.proofs.lemmas.List.Elements.{recursion_from_All}
@@ -25,10 +25,10 @@ use Rattle.syn_event.specs.AllNumbers.{info_of_task, entry_of_task, entries_of_t
 use Rattle.syn_event.specs.DeclaredTasks.{tasks_of}
 use Rattle.task_model.specs.declared.parameters.FormalParameter.{FormalParameter}
 use Rattle.task_model.specs.Setting.{Setting, unit_named, formals_of_entry, formals_in, formals_of_unit, formals_of_info, parameters_of, entry_parameters}
-use Rattle.task_laws.proofs.legal.rewritten_types.Lookups.{find-all, place-all}
+use Rattle.task_laws.proofs.legal.rewritten_types.Lookups.{find-all, place-all, place-more}
 use Rattle.task_laws.specs.legal.rewritten_values.Values.{old_names}
 use Rattle.normal_model.specs.Names.{task_name}
-use Rattle.normal_model.specs.NormalTree.{tasks_beside, main_unit}
+use Rattle.normal_model.specs.NormalTree.{tasks_beside}
 use Rattle.normal_laws.specs.structure.types.Own.{own_name}
 use Rattle.normal_laws.proofs.structure.numbers.Tasked.{IsOne, numbered-tasks-one, under, normal-tasks-of}
 use Rattle.normal_laws.proofs.structure.numbers.TaskNames.{entries-own}
@@ -41,19 +41,12 @@ use Rattle.normal_laws.specs.existence.Laws.{IsLegalOriginal}
 use Rattle.replay_runs.specs.starts.Laws.{form_in}
 use Rattle.replay_runs.specs.starts.Formals.{form_setting}
 use Rattle.collect_model.specs.declared.AddedNames.{AddedNames}
-use Rattle.collect_model.specs.Teller.{teller_in}
 use Rattle.collect_model.specs.CollectTree.{entry_telling, task_telling}
-use Rattle.collect_structure.proofs.texts.Listed.{recorder_tasks}
+use Rattle.collect_structure.proofs.texts.Telling.{recorder_tasks}
 use Rattle.collect_structure.proofs.texts.Rooted.{collect_agrees}
 use Rattle.collect_runs.specs.translation.Floors.{caller_parameter}
 use Rattle.collect_runs.specs.starts.Texts.{text_setting, names_added}
 use Rattle.collect_runs.proofs.forms.Finding.{text-tasks}
-
--- what stands at a place still does so with more behind
-get-front : {A : Type 0} (xs ys : List A) (k : ℕ) (x : A) → slice_get xs k ≡ Some x → slice_get (xs ++ ys) k ≡ Some x
-get-front [] ys k x e = absurd (none-some x e)
-get-front (y ∷ xs) ys zero x e = e
-get-front (y ∷ xs) ys (suc k) x e = get-front xs ys k x e
 
 module _ (p : PProgram) (h : IsLegalOriginal p) where
   abbrev r : Rules
@@ -86,26 +79,26 @@ module _ (p : PProgram) (h : IsLegalOriginal p) where
   -- ---- the entries of the program
 
   -- the entry is one of a task that is there, and of a name by which one of its unit is found
-  record IsOf (x : EntryInfo) : Type 0 where
-    k : ℕ
-    y : NumberedTask
-    at : slice_get ys k ≡ Some y
-    owner : x.owner ≡ suc k
-    entry : PEntry
-    found : find (named x.name) y.unit.entries ≡ Some entry
+  pub record IsOf (x : EntryInfo) : Type 0 where
+    pub k : ℕ
+    pub y : NumberedTask
+    pub at : slice_get ys k ≡ Some y
+    pub owner : x.owner ≡ suc k
+    pub entry : PEntry
+    pub found : find (named x.name) y.unit.entries ≡ Some entry
 
   abbrev IsFound : NumberedTask → PEntry → Type 0
   IsFound y e = (z : PEntry) × (find (named e.name.name) y.unit.entries ≡ Some z)
 
-  all-found : (y : NumberedTask) → AllByRecursion (IsFound y) y.unit.entries
+  pub all-found : (y : NumberedTask) → AllByRecursion (IsFound y) y.unit.entries
   all-found y = all_by_place (IsFound y) y.unit.entries (λ i e at. found_some (named e.name.name) y.unit.entries i e at (equal_self e.name.name.0))
 
-  of-task : (all : List EntryInfo) (k m : ℕ) (y : NumberedTask) → m ≡ suc k → slice_get ys k ≡ Some y → (es : List PEntry) → AllByRecursion (IsFound y) es →
+  pub of-task : (all : List EntryInfo) (k m : ℕ) (y : NumberedTask) → m ≡ suc k → slice_get ys k ≡ Some y → (es : List PEntry) → AllByRecursion (IsFound y) es →
       AllByRecursion IsOf (map (with_origin p.names all) (map (entry_of_task p.names (types_in p) m y) es))
   of-task all k m y e at [] f = tt
   of-task all k m y e at (x ∷ es) f = (record { k = k; y = y; at = at; owner = e; entry = f.0.0; found = f.0.1 }, of-task all k m y e at es f.1)
 
-  of-tasks : (all : List EntryInfo) (zs : List NumberedTask) (d m : ℕ) → m ≡ suc d → ((k : ℕ) (y : NumberedTask) → slice_get zs k ≡ Some y → slice_get ys (d + k) ≡ Some y) →
+  pub of-tasks : (all : List EntryInfo) (zs : List NumberedTask) (d m : ℕ) → m ≡ suc d → ((k : ℕ) (y : NumberedTask) → slice_get zs k ≡ Some y → slice_get ys (d + k) ≡ Some y) →
       AllByRecursion IsOf (map (with_origin p.names all) (entries_of_tasks p.names (types_in p) m zs))
   of-tasks all [] d m e at = tt
   of-tasks all (y ∷ zs) d m e at =
@@ -123,13 +116,13 @@ module _ (p : PProgram) (h : IsLegalOriginal p) where
       one-further : (d k : ℕ) → d + suc k ≡ suc d + k
       one-further d k = omega arith
 
-  all-of : AllByRecursion IsOf F.entries
+  pub all-of : AllByRecursion IsOf F.entries
   all-of = of-tasks (entries_of_tasks p.names (types_in p) 1 ys) ys 0 1 refl (λ k y at. subst (λ j. slice_get ys j ≡ Some y) (none-before k) at)
     where
       none-before : (k : ℕ) → k ≡ 0 + k
       none-before k = omega arith
 
-  is-of : (e : ℕ) (x : EntryInfo) → entry_at F e ≡ Some x → IsOf x
+  pub is-of : (e : ℕ) (x : EntryInfo) → entry_at F e ≡ Some x → IsOf x
   is-of e x at = by_test (e == 0) at
     where
       by_test : (b : Bool) → (if b then None else slice_get F.entries (e - 1)) ≡ Some x → IsOf x
@@ -142,22 +135,22 @@ module _ (p : PProgram) (h : IsLegalOriginal p) where
     where
       by_test : (b : Bool) → (if b then None else slice_get F.entries (e - 1)) ≡ Some x → (if b then None else slice_get U.numbers.entries (e - 1)) ≡ Some x
       by_test true f = f
-      by_test false f = get-front F.entries _ (e - 1) x f
+      by_test false f = place-more F.entries _ (e - 1) x f
 
   -- ---- units
 
   abbrev unit_name : NumberedTask → NameId
   unit_name y = task_name s (info_of_task p.names y)
 
-  task-there : (k : ℕ) (y : NumberedTask) → slice_get ys k ≡ Some y → task_at F (suc k) ≡ Some (task_info normal.names (unit_name y))
+  pub task-there : (k : ℕ) (y : NumberedTask) → slice_get ys k ≡ Some y → task_at F (suc k) ≡ Some (task_info normal.names (unit_name y))
   task-there k y at =
       slice_get-map (λ (t : PTask). task_info normal.names t.name.name) (tasks_of normal) k
       ∙ ap (option_map (λ (t : PTask). task_info normal.names t.name.name)) (ap (λ l. slice_get l k) (normal-tasks-of p (types_in p) (facts.ordered p h)) ∙ slice_get-map (under s) ys k ∙ ap (option_map (under s)) at)
 
   pub task-stays : (t : ℕ) (info : TaskInfo) → task_at F t ≡ Some info → task_at U.numbers t ≡ Some info
-  task-stays t info at = get-front F.tasks _ t info at
+  task-stays t info at = place-more F.tasks _ t info at
 
-  entries-there : (k : ℕ) (y : NumberedTask) → slice_get ys k ≡ Some y → entries_in (unit_named normal (unit_name y)) ≡ Some y.unit.entries
+  pub entries-there : (k : ℕ) (y : NumberedTask) → slice_get ys k ≡ Some y → entries_in (unit_named normal (unit_name y)) ≡ Some y.unit.entries
   entries-there k y at =
       let infos = tasks_beside s in
       let here : slice_get infos k ≡ Some (info_of_task p.names y) = (slice_get-map (info_of_task p.names) ys k ∙ ap (option_map (info_of_task p.names)) at) in
@@ -166,7 +159,7 @@ module _ (p : PProgram) (h : IsLegalOriginal p) where
       ∙ unit-found s (info_of_task p.names y) infos k here (units_are_declared p (types_in p) (facts.ordered p h)) (tell-at s (info_of_task p.names y) infos infos k here (facts.tell p h))
       ∙ ap (λ l. entries_in (first_one l)) one
 
-  unit-there : (k : ℕ) (y : NumberedTask) → slice_get ys k ≡ Some y → (t : PTask) × (unit_named normal (unit_name y) ≡ Some t) × (t.entries ≡ y.unit.entries)
+  pub unit-there : (k : ℕ) (y : NumberedTask) → slice_get ys k ≡ Some y → (t : PTask) × (unit_named normal (unit_name y) ≡ Some t) × (t.entries ≡ y.unit.entries)
   unit-there k y at = go (unit_named normal (unit_name y)) refl (entries-there k y at)
     where
       go : (o : Option PTask) → unit_named normal (unit_name y) ≡ o → entries_in o ≡ Some y.unit.entries → (t : PTask) × (unit_named normal (unit_name y) ≡ Some t) × (t.entries ≡ y.unit.entries)
@@ -177,7 +170,7 @@ module _ (p : PProgram) (h : IsLegalOriginal p) where
   unit-stays : (id : NameId) (t : PTask) → unit_named normal id ≡ Some t → unit_named U.program id ≡ Some (task_telling n t)
   unit-stays id t e =
       ap (find (has_name id)) (text-tasks p h)
-      ∙ find_front (has_name id) (map (task_telling n) (tasks_of normal)) (recorder_tasks (teller_in (main_unit (form_in p))) normal) (task_telling n t)
+      ∙ find_front (has_name id) (map (task_telling n) (tasks_of normal)) (recorder_tasks n normal) (task_telling n t)
       (find-mapped (has_name id) (has_name id) (task_telling n) (λ z. refl) (tasks_of normal) ∙ ap (option_map (task_telling n)) e)
 
   -- ---- formals

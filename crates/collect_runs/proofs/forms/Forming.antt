@@ -69,7 +69,7 @@ use Rattle.collect_runs.proofs.forms.Members.{member-told, index-of, index-after
 
 -- ---- what is found in front of one more
 
-found-front : {A : Type 0} (test : A → Bool) (xs : List A) (a : A) (k : ℕ) → position test xs ≡ Some k → position test (xs ++ a ∷ []) ≡ Some k
+pub found-front : {A : Type 0} (test : A → Bool) (xs : List A) (a : A) (k : ℕ) → position test xs ≡ Some k → position test (xs ++ a ∷ []) ≡ Some k
 found-front test xs a k h = position_push test xs a ∙ ap (λ o. first_of_two o (if test a then Some (length xs) else None)) h
 
 -- ---- calls and accepts of a row
@@ -152,12 +152,12 @@ lists-told numbers e own (Some args) = go (is_family numbers e)
     go false = refl
 
 -- a call is told by its lists alone, where it is a family's in both numberings or in none
-lists-alike : (numbers more : Numbering) (e : ℕ) (args : Option PArgs) → is_family more e ≡ is_family numbers e → lists_of more e args ≡ lists_of numbers e args
+pub lists-alike : (numbers more : Numbering) (e : ℕ) (args : Option PArgs) → is_family more e ≡ is_family numbers e → lists_of more e args ≡ lists_of numbers e args
 lists-alike numbers more e None same = refl
 lists-alike numbers more e (Some args) same = ap (λ d. lists_in d args) same
 
 -- where the index is worth a member of the entry, that is its number
-member-worth : (g : Setting) (V : Variables) (e : ℕ) (o : Option PExpr) (z y : ℤ) → IndexIs g.types V o z → member_index g V e o ≡ Ok y → z ≡ y
+pub member-worth : (g : Setting) (V : Variables) (e : ℕ) (o : Option PExpr) (z y : ℤ) → IndexIs g.types V o z → member_index g V e o ≡ Ok y → z ≡ y
 member-worth g V e o z y is worth = go o (sym (member_checked g V e o z is) ∙ worth)
   where
     by_test : (c : Bool) → (if c then Ok z else Err raised.Constraint) ≡ Ok y → z ≡ y
@@ -287,7 +287,8 @@ module _ (p : PProgram) (kept : ℕ → Bool) (h : IsLegalOriginal p) (text : Is
               ∙ ap (outcome (Ok y)) (taken x text.can t W (names_added p).caller (own_number X s) (Number (pos t)) fs lists.actuals vs (literal U.types W t s fits) fits o.0);
           known = o.1;
           number = entry-is;
-          member = λ s. member-is s y (index-after p kept h text.can see old-lists.index (subst (IndexIs F.types V lists.index) worth is));
+          member = λ s. member-is s y (index-after p (text_setting p) kept h (names_added p).caller
+              text.can.types text.can.names.caller see old-lists.index (subst (IndexIs F.types V lists.index) worth is));
           owner = refl;
           entry_fits = natural_integer e formed.entry.fits;
           owner_fits = owner-fits;
@@ -305,7 +306,7 @@ module _ (p : PProgram) (kept : ℕ → Bool) (h : IsLegalOriginal p) (text : Is
       let V : Variables = vars_of σ in
       let here : entry_of F.numbers t d.entry.name ≡ e = ap (λ o. unwrap_or o 0) formed.entry.found in
       let there : entry_of U.numbers t d.entry.name ≡ e = ap (λ o. unwrap_or o 0) (entry-named-there t d.entry.name e formed.entry.found) in
-      let worth = index-of p kept h text.can t σ is see e old.index formed.index in
+      let worth = index-of p (text_setting p) kept h (names_added p).caller text.can.types text.can.names.caller t σ is see e old.index formed.index in
       record {
         entry = there ∙ sym here;
         number = refl;
@@ -314,7 +315,8 @@ module _ (p : PProgram) (kept : ℕ → Bool) (h : IsLegalOriginal p) (text : Is
         told = λ z q own named vs s.
             let same : worth.0 ≡ z = member-worth F V (entry_of F.numbers t d.entry.name) d.index worth.0 z worth.1 q in
             member-told U.types (own ∷ (opened_objects U.types (parameters_of U.types d.formals) vs ++ W)) (form_in p) s (entry_of F.numbers t d.entry.name) d.index z
-            (index-inside p kept h text.can t is.there see d.formals old.formals inner own named vs e old.index formed.index (subst (IndexIs F.types V d.index) same worth.1));
+            (index-inside p (text_setting p) kept h (names_added p).caller
+            text.can.types text.can.names.caller t is.there see d.formals old.formals inner own named vs e old.index formed.index (subst (IndexIs F.types V d.index) same worth.1));
       }
 
   -- ---- tasks
@@ -344,7 +346,8 @@ module _ (p : PProgram) (kept : ℕ → Bool) (h : IsLegalOriginal p) (text : Is
         let formed = call-formed p t _ a.top.rest own.formed.rest c e in
         let r = call-rests p t [] F t i w a c e rests in
         let lists = lists_of F.numbers formed.entry.entry c.args in
-        let index = index-of p kept h text.can t (task_in F t i w a) own see formed.entry.entry (lists_old F.numbers formed.entry.entry old.args).index formed.index in
+        let index = index-of p (text_setting p) kept h (names_added p).caller
+        text.can.types text.can.names.caller t (task_in F t i w a) own see formed.entry.entry (lists_old F.numbers formed.entry.entry old.args).index formed.index in
         call-alike t (task-fits t _ own) c formed old a.vars W see index.0 index.1 (member_index F a.vars formed.entry.entry lists.index) refl
         (openings F.types a.vars (entry_parameters F formed.entry.entry) lists.actuals) refl r.0
         (sym (ap (λ k. steps_at (call_stand r.0 k)) (called-here t (task-fits t _ own) c formed old a.vars W see)) ∙ r.1);

@@ -30,7 +30,7 @@ use Rattle.task_model.specs.Calls.{opened_objects}
 use Rattle.task_laws.specs.statements.variables.Held.{AreInner}
 use Rattle.task_laws.proofs.statements.variables.Kept.{formals-inner}
 use Rattle.task_laws.specs.translation.Translations.{Programs, IsOld, types_before, types_after}
-use Rattle.task_laws.specs.translation.Scopes.{SeeAlike}
+use Rattle.task_laws.specs.translation.Scopes.{SeeAlike, AgreeOnTypes}
 use Rattle.task_laws.specs.translation.OldNames.{OldExpr, old_integer, old_name, old_index, old_attribute, old_attribute_of, old_paren, old_unary, old_binary, OldOption, old_none, old_some}
 use Rattle.task_laws.specs.translation.OldTexts.{OldWords, old_no_word, old_word, OldFormals, old_no_formal, old_formal}
 use Rattle.task_laws.specs.translation.Fixed.{IsFixed, FixedExpr, fixed_integer, fixed_name, fixed_attribute, fixed_attribute_of, fixed_paren, fixed_unary, fixed_binary}
@@ -51,10 +51,10 @@ use Rattle.replay_runs.specs.controls.permits.Laws.{IndexIs, index_is}
 use Rattle.replay_runs.specs.controls.permits.Laws as permits
 use Rattle.replay_runs.proofs.controls.Offers.{as-many-numbers}
 use Rattle.replay_runs.proofs.controls.indices.Joined.{legal_variables_are_added, legal_indices_evaluate}
-use Rattle.collect_runs.specs.telling.Texts.{CanTell, TellsMember}
+use Rattle.collect_runs.specs.telling.Texts.{TellsMember}
 use Rattle.collect_runs.proofs.telling.Noting.{zero-told}
-use Rattle.collect_runs.specs.starts.Texts.{texts_of, names_added}
 use Rattle.collect_runs.proofs.forms.Starting.{all-passed}
+use Rattle.collect_runs.proofs.forms.Old.{programs_with}
 
 -- ---- how it is told
 
@@ -123,9 +123,10 @@ apart-from test a c fails passes = unequal a.0 c.0 (λ e. true≢false (sym pass
 
 -- ---- what it is worth
 
-module _ (p : PProgram) (kept : ℕ → Bool) (h : IsLegalOriginal p) (can : CanTell (texts_of p kept)) where
+module _ (p : PProgram) (made : Setting) (kept : ℕ → Bool) (h : IsLegalOriginal p) (caller : NameId) (types : AgreeOnTypes (programs_with p made kept))
+    (caller_new : kept caller.0 ≡ false) where
   abbrev b : Programs
-  b = (texts_of p kept).programs
+  b = programs_with p made kept
 
   static-fixed : {e : PExpr} → OldExpr b e → is_static (types_before b) e ≡ true → FixedExpr b e
   static-fixed (old_integer n s) k = fixed_integer n s
@@ -154,11 +155,11 @@ module _ (p : PProgram) (kept : ℕ → Bool) (h : IsLegalOriginal p) (can : Can
   -- the image's index is worth the same
   pub index-after : {V W : Variables} → SeeAlike b V W → {o : Option PExpr} → OldOption b o → {z : ℤ} → IndexIs (types_before b) V o z → IndexIs (types_after b) W o z
   index-after see old_none permits.no_index = permits.no_index
-  index-after see (old_some x old) (index_is _ v worth fits) = index_is x v (sym (worth-same b can.types see old) ∙ worth) fits
+  index-after see (old_some x old) (index_is _ v worth fits) = index_is x v (sym (worth-same b types see old) ∙ worth) fits
 
   -- so it is in an accept body, with the formals of the text in front
   module _ (t : ℕ) (there : t ≤ last_task (form_in p).numbers) {V W : Variables} (see : SeeAlike b V W) (formals : List PFormal) (old : OldFormals b formals)
-      (inner : AreInner (inner_name p) formals) (own : Object) (named : own.name ≡ (names_added p).caller) (vs : List Value) where
+      (inner : AreInner (inner_name p) formals) (own : Object) (named : own.name ≡ caller) (vs : List Value) where
     abbrev U : TypeTable
     U = types_after b
 
@@ -171,7 +172,7 @@ module _ (p : PProgram) (kept : ℕ → Bool) (h : IsLegalOriginal p) (can : Can
     passed : (id : NameId) → IsOld b id → AllByRecursion (IsOther id) fs → object_named Z id ≡ object_named W id
     passed id is_old others =
         ap (λ c. cond c (Some own) (object_named (opened_objects U fs vs ++ W) id))
-        (ap (λ (n : NameId). n.0 == id.0) named ∙ apart-from b.is_old (names_added p).caller id can.names.caller is_old)
+        (ap (λ (n : NameId). n.0 == id.0) named ∙ apart-from b.is_old caller id caller_new is_old)
         ∙ all-passed (opened_objects U fs vs) W id (opened-other U id fs vs others)
 
     variable-passed : (id : NameId) → IsOld b id → inner_name p id.0 ≡ false → object_named Z id ≡ object_named W id
@@ -190,10 +191,10 @@ module _ (p : PProgram) (kept : ℕ → Bool) (h : IsLegalOriginal p) (can : Can
     index-inside e (old_some _ (old_name id s is_old)) (variable_index _ k is) (index_is _ v worth fits) =
         let added = added-there t there k (slice_get_within (variables_of p t) k _ is) in
         index_is (EName id s) v
-        (ap (λ o. Ok (name_value U o id)) (variable-passed id is_old added.outer) ∙ sym (worth-same b can.types see (old_name id s is_old)) ∙ worth) fits
+        (ap (λ o. Ok (name_value U o id)) (variable-passed id is_old added.outer) ∙ sym (worth-same b types see (old_name id s is_old)) ∙ worth) fits
     index-inside e (old_some _ old) (static_index x a static at lies within) (index_is _ v worth fits) =
         index_is x v
         (fixed-worth b U Z fixed-passed (static-fixed old static)
         ∙ sym (fixed-worth b U W (fixed-after b see) (static-fixed old static))
-        ∙ sym (worth-same b can.types see old)
+        ∙ sym (worth-same b types see old)
         ∙ worth) fits

@@ -1,4 +1,4 @@
--- The objects with which the tasks of a normal form start have kept names and known values.
+-- The objects with which the tasks of a normal form start have names that stay and known values, whichever of its texts it is.
 use Rattle.std.proofs.Common.{ℕ, zero, suc, ℤ, Bool, true, if◌then◌else◌, [], ◌∷◌, ◌++◌, is_some, Option, Some, None, refl, sym, ap, subst, arith}
 use Rattle.std.specs.List.{AllByRecursion}
 use Rattle.std.proofs.lemmas.Bool.{ne_eqb}
@@ -6,7 +6,7 @@ use Rattle.std.proofs.lemmas.List.{append-nil}
 use Rattle.common_lemmas.proofs.Lists.{all_front}
 use Rattle.ada_tree.specs.TypeTable.{TypeTable}
 use Rattle.ada_tree.specs.PlainProgram.{PProgram}
-use Rattle.ada_tree.specs.Every.{EveryDecls}
+use Rattle.ada_tree.specs.Every.{EveryDecls, EveryProgram}
 use Rattle.ada_static_rules.specs.Refusals.{MeetsTypeRules, types_in}
 use Rattle.ada_static_rules.specs.Demand.{Site}
 use Rattle.ada_static_rules.specs.Sites.{decls_sites, body_sites}
@@ -36,9 +36,8 @@ use Rattle.normal_laws.proofs.existence.units.TypedNames.{stand-still}
 use Rattle.normal_laws.proofs.legality.checks.Facts as facts
 use Rattle.replay_runs.specs.starts.Laws.{form_in, start_before}
 use Rattle.replay_runs.proofs.controls.translated.Tables.{form-small}
-use Rattle.collect_runs.specs.starts.Texts.{text_for, texts_of}
-use Rattle.collect_runs.proofs.forms.Tables.{kept_for, values}
-use Rattle.collect_runs.proofs.forms.Old.{names-kept}
+use Rattle.collect_runs.proofs.forms.Old.{programs_with}
+use Rattle.task_model.specs.Setting.{Setting}
 
 -- ---- more variables
 
@@ -50,7 +49,8 @@ module _ (b : Programs) where
   pub extends-same : (V : Variables) → AllByRecursion (IsPlain b) V → Extends b V V
   extends-same V h = subst (λ W. Extends b W W) (append-nil V) (extends-over V [] [] h extends_none)
 
-module _ (p : PProgram) (h : IsLegalOriginal p) where
+module _ (p : PProgram) (h : IsLegalOriginal p) (text : PProgram) (made : Setting) (old : ℕ → Bool) (stay : EveryProgram (own_rules old) (made_for p))
+    (agree : AgreeOnValues old (types_in (made_for p)) (types_in text) (made_for p).names text.names) where
   abbrev q : PProgram
   q = made_for p
 
@@ -58,16 +58,10 @@ module _ (p : PProgram) (h : IsLegalOriginal p) where
   T = types_in q
 
   abbrev U : TypeTable
-  U = types_in (text_for p)
+  U = types_in text
 
   abbrev b : Programs
-  b = (texts_of p (kept_for p)).programs
-
-  abbrev old : ℕ → Bool
-  old = kept_for p
-
-  abbrev agree : AgreeOnValues old T U q.names (text_for p).names
-  agree = values p h
+  b = programs_with p made old
 
   rules : MeetsTypeRules q
   rules = normal_meets_types p h
@@ -75,7 +69,7 @@ module _ (p : PProgram) (h : IsLegalOriginal p) where
   -- ---- the objects of the normal form
 
   abbrev IsStarted : Object → Type 0
-  IsStarted o = IsPlainObject old T U q.names (text_for p).names agree o
+  IsStarted o = IsPlainObject old T U q.names text.names agree o
 
   abbrev Free : Site → Type 0
   Free x = IsFreeLocal T x.demand
@@ -99,7 +93,7 @@ module _ (p : PProgram) (h : IsLegalOriginal p) where
         outer = λ ds k. tt;
         nested = λ n k. tt;
       }
-      q (names-kept p h)).2
+      q stay).2
 
   places : AllByRecursion Free (decls_sites (first_scope q.name) q.decls)
   places = all_front Free (decls_sites (first_scope q.name) q.decls) (body_sites (inner_scope (after_decls (first_scope q.name) q.decls)) q.body) (locals-free q rules).1
@@ -107,19 +101,23 @@ module _ (p : PProgram) (h : IsLegalOriginal p) where
   main-objects : AllByRecursion IsStarted (objects_of T true q.decls [])
   main-objects =
       subst (AllByRecursion IsStarted) (sym (objects_stay q.name q.decls (staying (first_scope q.name) q.decls) (declared_once q rules) (staying_is_front q rules (facts.placed p h).1) []))
-      (main-plain old T U q.names (text_for p).names agree q.decls (first_scope q.name) [] places named
-      (arrays-free old T U q.names (text_for p).names agree q refl rules (stand-still T q.decls (first_scope q.name) (main-stands q rules (facts.placed p h) (form-small p h)))) tt)
+      (main-plain old T U q.names text.names agree q.decls (first_scope q.name) [] places named
+      (arrays-free old T U q.names text.names agree q refl rules (stand-still T q.decls (first_scope q.name) (main-stands q rules (facts.placed p h) (form-small p h)))) tt)
 
   info-objects : (info : Option TaskInfo) → AllByRecursion IsStarted (objects_of T (unit_of_info q info).in_main (unit_of_info q info).decls [])
   info-objects None = tt
-  info-objects (Some info) = units-plain old T U q.names (text_for p).names agree q.decls (first_scope q.name) info.unit places named
+  info-objects (Some info) = units-plain old T U q.names text.names agree q.decls (first_scope q.name) info.unit places named
 
-  pub objects-plain : (t : ℕ) → AllByRecursion IsStarted (start_before p t)
+  objects-plain : (t : ℕ) → AllByRecursion IsStarted (start_before p t)
   objects-plain zero = main-objects
   objects-plain (suc t) =
       subst (λ c. AllByRecursion IsStarted (objects_of T (if c then record { in_main = true; decls = q.decls; body = q.body } else unit_of_info q (task_at (form_in p).numbers (suc t))).in_main (if c then record { in_main = true; decls = q.decls; body = q.body } else unit_of_info q (task_at (form_in p).numbers (suc t))).decls []))
       (sym (ne_eqb (suc t) 0 (λ e. omega (arith, e)))) (info-objects (task_at (form_in p).numbers (suc t)))
 
-  pub objects-old : (V : Variables) → AllByRecursion IsStarted V → AllByRecursion (IsPlain b) V
+  objects-old : (V : Variables) → AllByRecursion IsStarted V → AllByRecursion (IsPlain b) V
   objects-old [] k = tt
   objects-old (o ∷ V) k = ((k.0.old_name, (k.0.known, ap (λ (v : Option ℤ). is_some v) k.0.free)), objects-old V k.1)
+
+  -- They are plain ones of both programs.
+  pub start-plain : (t : ℕ) → AllByRecursion (IsPlain b) (start_before p t)
+  start-plain t = objects-old (start_before p t) (objects-plain t)

@@ -1,5 +1,5 @@
--- Kept names alone stand in the statements of the normal form of a legal program.
-use Rattle.std.proofs.Common.{ℕ, zero, suc, ◌==◌, Bool, true, false, if◌then◌else◌, [], ◌∷◌, ◌++◌, unwrap_or, Option, Some, None, refl, sym, subst, arith}
+-- Names that stay alone stand in the statements of the normal form of a legal program, whichever of its texts it is.
+use Rattle.std.proofs.Common.{ℕ, zero, suc, ◌==◌, Bool, true, false, if◌then◌else◌, [], ◌∷◌, ◌++◌, unwrap_or, Option, Some, None, refl, sym, subst, arith, is_some}
 use Rattle.std.specs.List.{AllByRecursion}
 use Rattle.std.proofs.lemmas.Bool.{ne_eqb}
 use Rattle.common_lemmas.proofs.Lists.{all_back, all_front, all_paired}
@@ -8,7 +8,7 @@ use Rattle.ada_tree.specs.TypeTable.{TypeTable}
 use Rattle.ada_tree.specs.PlainStmt.{no_stmt, no_handler}
 use Rattle.ada_tree.specs.PlainDecl.{DTaskBody, PDecls, no_decl, decl_then}
 use Rattle.ada_tree.specs.PlainProgram.{PProgram}
-use Rattle.ada_tree.specs.Every.{Rules, EveryDecl, EveryDecls, EveryProgram}
+use Rattle.ada_tree.specs.Every.{Rules, EveryDecls, EveryProgram}
 use Rattle.ada_static_rules.specs.Refusals.{MeetsTypeRules, types_in}
 use Rattle.ada_static_rules.specs.Scope.{Scope}
 use Rattle.ada_static_rules.specs.Demand.{Site}
@@ -38,22 +38,28 @@ use Rattle.normal_laws.proofs.legality.checks.Facts as facts
 use Rattle.normal_laws.proofs.existence.statements.Asked.{nothing-asked}
 use Rattle.replay_runs.specs.starts.Laws.{form_in}
 use Rattle.replay_runs.proofs.controls.translated.Tables.{form-small}
-use Rattle.syn_event.specs.DeclaredTasks.{decl_list}
 use Rattle.normal_laws.proofs.structure.checked.Owned.{own-together}
-use Rattle.normal_laws.specs.runs.forms.Normalisable.{numbers_of}
 use Rattle.collect_structure.specs.Names.{kept_names}
-use Rattle.collect_structure.specs.checked.Checkable.{IsCheckable}
-use Rattle.collect_structure.proofs.legal.Values.{same-values}
-use Rattle.collect_structure.proofs.legal.Checkable.{legal_is_checkable}
-use Rattle.collect_runs.specs.starts.Texts.{texts_of}
 use Rattle.collect_runs.proofs.forms.Tables.{kept_for}
+use Rattle.collect_structure.proofs.scopes.Owned.{every-unlisted}
+use Rattle.collect_runs.proofs.forms.Finding.{checkable}
+use Rattle.task_model.specs.Setting.{Setting}
+use Rattle.ada_static_rules.specs.StaticValue.{value_named}
+use Rattle.task_laws.specs.legal.rewritten_values.Values.{is_known}
+use Rattle.replay_runs.specs.starts.Formals.{form_setting}
 
--- what holds of each declaration of a list
-every-declared : (r : Rules) (ds : PDecls) → AllByRecursion (EveryDecl r) (decl_list ds) → EveryDecls r ds
-every-declared r no_decl h = tt
-every-declared r (decl_then d ds) h = (h.0, every-declared r ds h.1)
+-- The normal form and a text of it, by the setting of the text and the names that stay.
+abbrev pub programs_with : PProgram → Setting → (ℕ → Bool) → Programs
+programs_with p made old = record {
+  original = form_setting p;
+  made = made;
+  is_old = old;
+  is_fixed = λ n. is_some (value_named (types_in (form_in p).program) record { 0 = n });
+  is_known = is_known (types_in (form_in p).program);
+}
 
-module _ (p : PProgram) (h : IsLegalOriginal p) where
+-- Where names that stay alone stand in the normal form, they alone stand in its statements, whatever the text.
+module _ (p : PProgram) (h : IsLegalOriginal p) (made : Setting) (old : ℕ → Bool) (stay : EveryProgram (own_rules old) (made_for p)) where
   abbrev n : PProgram
   n = made_for p
 
@@ -61,7 +67,7 @@ module _ (p : PProgram) (h : IsLegalOriginal p) where
   T = types_in n
 
   abbrev b : Programs
-  b = (texts_of p (kept_for p)).programs
+  b = programs_with p made old
 
   abbrev a : Asked
   a = only_names b
@@ -74,15 +80,6 @@ module _ (p : PProgram) (h : IsLegalOriginal p) where
 
   rules : MeetsTypeRules n
   rules = normal_meets_types p h
-
-  checkable : IsCheckable (form_in p)
-  checkable = legal_is_checkable p h (same-values p (types_in p) (numbers_of p) (facts.ordered p h) (facts.olds p h).2)
-
-  -- all names are kept
-  pub names-kept : EveryProgram (own_rules (kept_for p)) n
-  names-kept =
-      own-together (kept_for p) (kept_names n) (λ id k. k) n.names n
-      (checkable.main, tt, every-declared (kept_names n) n.decls checkable.declared, checkable.named) (facts.placed p h)
 
   typed : AreTyped n b.made b.is_old b.is_fixed (StandsWhole T)
   typed = are-typed n b.made b.is_old rules (facts.placed p h) (form-small p h)
@@ -137,7 +134,7 @@ module _ (p : PProgram) (h : IsLegalOriginal p) where
       (all_front _ (decls_sites first n.decls) (body_sites main_scope n.body) (all-apart n rules).1)
 
   of-main : OldBody a n.body
-  of-main = body-as-asked a r known gives n.body main_scope around 1 typed.main names-kept.3 body-known (nothing-asked _)
+  of-main = body-as-asked a r known gives n.body main_scope around 1 typed.main stay.3 body-known (nothing-asked _)
 
   of-name : (ds : PDecls) (s : Scope) (name : NameId) → BodiesStand T s ds → EveryDecls r ds → AllByRecursion Place (decls_sites s ds) → OldBody a (unit_among ds name).body
   of-name no_decl s name stand every at = old_body no_stmt no_handler old_no_stmt old_no_handler
@@ -158,10 +155,17 @@ module _ (p : PProgram) (h : IsLegalOriginal p) where
 
   of-info : (info : Option TaskInfo) → OldBody a (unit_of_info n info).body
   of-info None = old_body no_stmt no_handler old_no_stmt old_no_handler
-  of-info (Some info) = of-name n.decls first info.unit bodies-are names-kept.2 decls-known
+  of-info (Some info) = of-name n.decls first info.unit bodies-are stay.2 decls-known
 
-  pub bodies-old : (t : ℕ) → OldBody a (unit_of n (form_in p).numbers t).body
-  bodies-old zero = of-main
-  bodies-old (suc t) =
+  pub only-old : (t : ℕ) → OldBody a (unit_of n (form_in p).numbers t).body
+  only-old zero = of-main
+  only-old (suc t) =
       subst (λ c. OldBody a (if c then record { in_main = true; decls = n.decls; body = n.body } else unit_of_info n (task_at (form_in p).numbers (suc t))).body)
       (sym (ne_eqb (suc t) 0 (λ e. omega (arith, e)))) (of-info (task_at (form_in p).numbers (suc t)))
+
+-- all names are kept
+pub names-kept : (p : PProgram) → IsLegalOriginal p → EveryProgram (own_rules (kept_for p)) (made_for p)
+names-kept p h =
+    let n : PProgram = made_for p in
+    own-together (kept_for p) (kept_names n) (λ id k. k) n.names n
+    ((checkable p h).main, tt, every-unlisted (kept_names n) n.decls (checkable p h).declared, (checkable p h).named) (facts.placed p h)

@@ -13,7 +13,7 @@ use Rattle.ada_tree.specs.PlainExpr.{EInteger}
 use Rattle.ada_tree.specs.PlainStmt.{PBody}
 use Rattle.ada_tree.specs.PlainDecl.{IOne, OPlain, PDecl, DNumber, DObject, DEnumeration, DArray, DSubtype, DException, DIntIo, DPragma, DTask, DTaskBody, PDecls, no_decl, decl_then, decls_of}
 use Rattle.ada_tree.specs.PlainProgram.{PProgram}
-use Rattle.ada_tree.specs.Every.{Rules, EveryDecl, EveryDecls}
+use Rattle.ada_tree.specs.Every.{Rules, EveryDecl}
 use Rattle.ada_static_rules.specs.Refusals.{types_in}
 use Rattle.ada_static_rules.specs.Declaring.{predefined_types, first_scope}
 use Rattle.ada_static_rules.specs.StaticValue.{mark_named, is_named}
@@ -24,7 +24,7 @@ use Rattle.ada_value.specs.Variables.{Object, Variables, object_named}
 use Rattle.syn_event.specs.declared.numbering.TaskInfo.{TaskInfo}
 use Rattle.syn_event.specs.Numbering.{Numbering, task_at}
 use Rattle.syn_event.specs.DeclaredTasks.{decl_list}
-use Rattle.syn_event.proofs.DeclLists.{list_again}
+use Rattle.syn_event.proofs.DeclLists.{list_again, every_listed}
 use Rattle.task_model.specs.Frames.{OwnBody, control}
 use Rattle.task_model.specs.Steps.{block_stmts, block_handlers}
 use Rattle.task_model.specs.Starting.{Unit, unit_of, unit_among, form_of, initial, declared_objects, after_declaration, objects_of, started, started_in}
@@ -47,7 +47,7 @@ use Rattle.replay_structure.proofs.bodies.Bodies.{unit-at}
 use Rattle.replay_runs.specs.starts.Laws.{own_part, added_part, objects_in, form_in, start_before}
 use Rattle.replay_runs.specs.starts.Formals.{form_setting}
 use Rattle.replay_runs.proofs.starts.Objects.{objects-behind}
-use Rattle.replay_runs.proofs.starts.Programs.{InBody, in-unit}
+use Rattle.replay_runs.proofs.starts.Programs.{InBody, in-unit, all-added}
 use Rattle.replay_runs.proofs.starts.Tables.{integer_is_there, IsOldDecl, objects-alike}
 use Rattle.replay_runs.proofs.controls.translated.Objects.{beside-main}
 use Rattle.collect_model.specs.declared.AddedNames.{AddedNames}
@@ -60,16 +60,16 @@ use Rattle.collect_runs.specs.translation.Laws.{StartAlike, body_of}
 use Rattle.collect_runs.specs.telling.Texts.{teller}
 use Rattle.collect_runs.specs.starts.Texts.{text_for, text_setting, names_added, texts_of}
 use Rattle.collect_runs.proofs.translation.Carried.{collect_starts}
-use Rattle.collect_runs.proofs.forms.Tables.{kept_for, agrees, names_are_added, types_agree}
-use Rattle.collect_runs.proofs.forms.Old.{bodies-old}
-use Rattle.collect_runs.proofs.forms.Objects.{extends-over, extends-same, named, objects-plain, objects-old}
+use Rattle.collect_runs.proofs.forms.Tables.{kept_for, agrees, names_are_added, types_agree, values}
+use Rattle.collect_runs.proofs.forms.Old.{only-old, names-kept}
+use Rattle.collect_runs.proofs.forms.Objects.{extends-over, extends-same, named, start-plain}
 use Rattle.collect_runs.proofs.forms.Bodies.{told_unit}
 use Rattle.collect_runs.proofs.forms.Units.{legal_runs_told}
 
 -- ---- declarations among others
 
 module _ (P : PDecl → Type 0) (names : List (List ℕ)) where
-  all-own : (ds : List PDecl) → AllByRecursion P ds → AllByRecursion P (own_part names ds)
+  pub all-own : (ds : List PDecl) → AllByRecursion P ds → AllByRecursion P (own_part names ds)
   all-own [] h = tt
   all-own (d ∷ ds) h = by_test (is_added_object names d) (all-own ds h.1)
     where
@@ -77,20 +77,12 @@ module _ (P : PDecl → Type 0) (names : List (List ℕ)) where
       by_test true k = tt
       by_test false k = (h.0, k)
 
-  all-added : (ds : List PDecl) → AllByRecursion P ds → AllByRecursion P (added_part names ds)
-  all-added [] h = tt
-  all-added (d ∷ ds) h = by_test (is_added_object names d) (all-added ds h.1)
-    where
-      by_test : (b : Bool) → AllByRecursion P (added_part names ds) → AllByRecursion P (if b then d ∷ ds else added_part names ds)
-      by_test true k = h
-      by_test false k = k
-
 module _ (T : TypeTable) (in_main : Bool) where
-  in-turn : (xs ys : List PDecl) (V : Variables) → objects_of T in_main (decls_of (xs ++ ys)) V ≡ objects_of T in_main (decls_of ys) (objects_of T in_main (decls_of xs) V)
+  pub in-turn : (xs ys : List PDecl) (V : Variables) → objects_of T in_main (decls_of (xs ++ ys)) V ≡ objects_of T in_main (decls_of ys) (objects_of T in_main (decls_of xs) V)
   in-turn [] ys V = refl
   in-turn (d ∷ xs) ys V = in-turn xs ys (after_declaration T in_main d V)
 
-  parted : (names : List (List ℕ)) (ds : List PDecl) (V : Variables) →
+  pub parted : (names : List (List ℕ)) (ds : List PDecl) (V : Variables) →
       objects_of T in_main (decls_of ds) V ≡ objects_of T in_main (decls_of (added_part names ds)) (objects_of T in_main (decls_of (own_part names ds)) V)
   parted names [] V = refl
   parted names (d ∷ ds) V = by_test (is_added_object names d) (parted names ds (after_declaration T in_main d V))
@@ -102,7 +94,7 @@ module _ (T : TypeTable) (in_main : Bool) where
       by_test true e = refl
       by_test false e = e
 
-  put : (names : List (List ℕ)) (es ds : List PDecl) (V : Variables) →
+  pub put : (names : List (List ℕ)) (es ds : List PDecl) (V : Variables) →
       objects_of T in_main (decls_of (behind_own names es ds)) V
       ≡ objects_of T in_main (decls_of (added_part names ds)) (objects_of T in_main (decls_of es) (objects_of T in_main (decls_of (own_part names ds)) V))
   put names es [] V = refl
@@ -117,7 +109,7 @@ module _ (T : TypeTable) (in_main : Bool) where
       by_test false e = e
 
   -- tasks and bodies add no object
-  passed-over : (ds : List PDecl) (V : Variables) → objects_of T in_main (decls_of ds) V ≡ objects_of T in_main (decls_of (filter (λ d. not (is_task d || is_body d)) ds)) V
+  pub passed-over : (ds : List PDecl) (V : Variables) → objects_of T in_main (decls_of ds) V ≡ objects_of T in_main (decls_of (filter (λ d. not (is_task d || is_body d)) ds)) V
   passed-over [] V = refl
   passed-over (DTask t s ∷ ds) V = passed-over ds V
   passed-over (DTaskBody w objects its s ∷ ds) V = passed-over ds V
@@ -156,7 +148,7 @@ module _ (T : TypeTable) (in_main : Bool) where
   bodies-none x names (DIntIo w s ∷ ds) V = bodies-none x names ds V
   bodies-none x names (DPragma e s ∷ ds) V = bodies-none x names ds V
 
-plain-listed : (P : PDecl → Type 0) (ds : List PDecl) → AllByRecursion P ds → AllByRecursion P (filter (λ d. not (is_task d || is_body d)) ds)
+pub plain-listed : (P : PDecl → Type 0) (ds : List PDecl) → AllByRecursion P ds → AllByRecursion P (filter (λ d. not (is_task d || is_body d)) ds)
 plain-listed P [] h = tt
 plain-listed P (DTask t s ∷ ds) h = plain-listed P ds h.1
 plain-listed P (DTaskBody w objects its s ∷ ds) h = plain-listed P ds h.1
@@ -169,14 +161,10 @@ plain-listed P (DException ws s ∷ ds) h = (h.0, plain-listed P ds h.1)
 plain-listed P (DIntIo w s ∷ ds) h = (h.0, plain-listed P ds h.1)
 plain-listed P (DPragma e s ∷ ds) h = (h.0, plain-listed P ds h.1)
 
-every-listed : (r : Rules) (ds : PDecls) → EveryDecls r ds → AllByRecursion (EveryDecl r) (decl_list ds)
-every-listed r no_decl h = tt
-every-listed r (decl_then d ds) h = (h.0, every-listed r ds h.1)
-
-bodies-listed : (r : Rules) (ds : List PDecl) → AllByRecursion (EveryDecl r) ds → AllByRecursion (InBody (EveryDecl r)) ds
+pub bodies-listed : (r : Rules) (ds : List PDecl) → AllByRecursion (EveryDecl r) ds → AllByRecursion (InBody (EveryDecl r)) ds
 bodies-listed r [] h = tt
 bodies-listed r (DTask t s ∷ ds) h = (tt, bodies-listed r ds h.1)
-bodies-listed r (DTaskBody w objects its s ∷ ds) h = (every-listed r objects h.0.3, bodies-listed r ds h.1)
+bodies-listed r (DTaskBody w objects its s ∷ ds) h = (every_listed r objects h.0.3, bodies-listed r ds h.1)
 bodies-listed r (DNumber w e s ∷ ds) h = (tt, bodies-listed r ds h.1)
 bodies-listed r (DObject ws k y i s ∷ ds) h = (tt, bodies-listed r ds h.1)
 bodies-listed r (DEnumeration w ws s ∷ ds) h = (tt, bodies-listed r ds h.1)
@@ -187,7 +175,7 @@ bodies-listed r (DIntIo w s ∷ ds) h = (tt, bodies-listed r ds h.1)
 bodies-listed r (DPragma e s ∷ ds) h = (tt, bodies-listed r ds h.1)
 
 -- the unit of a body is never main's
-none-in-main : (ds : PDecls) (name : NameId) → (unit_among ds name).in_main ≡ false
+pub none-in-main : (ds : PDecls) (name : NameId) → (unit_among ds name).in_main ≡ false
 none-in-main no_decl name = refl
 none-in-main (decl_then (DTaskBody w objects its s) ds) name = by_test (w.name.0 == name.0) (none-in-main ds name)
   where
@@ -238,7 +226,7 @@ module _ (p : PProgram) (h : IsLegalOriginal p) where
   r = old_names (kept_for p)
 
   all-old : AllByRecursion (EveryDecl r) (decl_list q.decls)
-  all-old = every-listed r q.decls (named p h)
+  all-old = every_listed r q.decls (named p h (text_for p) (text_setting p) (kept_for p) (names-kept p h) (values p h))
 
   -- ---- the variables by which a unit hears the recorder
 
@@ -379,7 +367,7 @@ module _ (p : PProgram) (h : IsLegalOriginal p) where
       let one = unit-heard true q.name.span in
       let heard : Heard (objects_in U true es) = (one.0, one.1, main-same q.name.span (list_any is_int_io plain-part) (last_task F) ∙ one.2) in
       let old = plain-listed (EveryDecl r) (decl_list q.decls) all-old in
-      let plain = objects-old p h (start_before p 0) (objects-plain p h 0) in
+      let plain = start-plain p h (text_for p) (text_setting p) (kept_for p) (names-kept p h) (values p h) 0 in
       subst (λ V. Started V (objects_of U true (text_for p).decls [])) (sym main-before)
       (subst (λ V'. Started (objects_in T true plain-part) V') (sym main-after) (starts-with true es plain-part old heard (subst (AllByRecursion (IsPlain b)) main-before plain)))
 
@@ -392,14 +380,16 @@ module _ (p : PProgram) (h : IsLegalOriginal p) where
       (ap (λ (m : Bool). objects_of T m (unit_of q F (suc t)).decls []) beside ∙ ap (λ (y : PDecls). objects_of T false y []) (sym (list_again (unit_of q F (suc t)).decls))) in
       let old : AllByRecursion (EveryDecl r) ds =
       subst (λ (y : Unit). AllByRecursion (EveryDecl r) (decl_list y.decls)) (sym is) (in-unit (EveryDecl r) q.decls info.unit (bodies-listed r (decl_list q.decls) all-old)) in
-      let plain : AllByRecursion (IsPlain b) (start_before p (suc t)) = objects-old p h (start_before p (suc t)) (objects-plain p h (suc t)) in
+      let plain : AllByRecursion (IsPlain b) (start_before p (suc t)) =
+      start-plain p h (text_for p) (text_setting p) (kept_for p) (names-kept p h) (values p h) (suc t) in
       subst (λ V. Started V (objects_of U false (told_unit x q.names info.unit s (unit_of q F (suc t))).decls [])) (sym same)
       (starts-with false (unit_declared n s) ds old (unit-heard false s) (subst (AllByRecursion (IsPlain b)) same plain))
 
   -- Each task of the text comes to where it is alike the normal form's.
   pub legal_starts : (inputs : List (List ℤ)) (t : ℕ) → t ≤ last_task F → StartAlike b (teller (texts_of p kept) t) (started (form_setting p) inputs t) (started (text_setting p) inputs t)
   legal_starts inputs zero l =
-      of-body 0 q.name.span q.body (text_for p).body (objects_of T true q.decls []) (objects_of U true (text_for p).decls []) (slice_index_or inputs 0 []) (bodies-old p h 0) main-started refl
+      of-body 0 q.name.span q.body (text_for p).body (objects_of T true q.decls []) (objects_of U true (text_for p).decls []) (slice_index_or inputs 0 [])
+      (only-old p h (text_setting p) (kept_for p) (names-kept p h) 0) main-started refl
   legal_starts inputs (suc t) l =
       let at = beside-main p [] h t l in
       let info : TaskInfo = at.0 in
@@ -407,7 +397,8 @@ module _ (p : PProgram) (h : IsLegalOriginal p) where
       let s : Span = runs.0 in
       subst (λ (k : Unit). StartAlike b (teller (texts_of p kept) (suc t)) (started (form_setting p) inputs (suc t)) (started_in (text_setting p) (suc t) k (slice_index_or inputs (suc t) []))) (sym runs.1)
       (of-body (suc t) s (unit_of q F (suc t)).body (task_body (teller_at x (task_of F info.unit)) s (unit_of q F (suc t)).body) (start_before p (suc t))
-      (objects_of U false (told_unit x q.names info.unit s (unit_of q F (suc t))).decls []) (slice_index_or inputs (suc t) []) (bodies-old p h (suc t))
+      (objects_of U false (told_unit x q.names info.unit s (unit_of q F (suc t))).decls []) (slice_index_or inputs (suc t) [])
+      (only-old p h (text_setting p) (kept_for p) (names-kept p h) (suc t))
       (task-started t info at.1 s)
       (ap (λ (m : ℕ). task_body (teller_at x m) s (unit_of q F (suc t)).body) runs.2
       ∙ ap (λ (c : Bool). if c then main_body (teller_at x (suc t)) (unit_of q F (suc t)).body else task_body (teller_at x (suc t)) s (unit_of q F (suc t)).body) (sym (ne_eqb (suc t) 0 (λ e. omega (arith, e))))))

@@ -39,7 +39,7 @@ use Rattle.collect_runs.proofs.forms.Bodies.{told_unit, found, bodies-alone}
 use Rattle.collect_runs.proofs.forms.Formals.{task-stays}
 
 -- a body of a name stands among declarations where the name is among those of their bodies
-body-there : (ds : PDecls) (id : NameId) → has_body (decl_list ds) id ≡ list_any (λ n. n == id.0) (check.body_names ds)
+pub body-there : (ds : PDecls) (id : NameId) → has_body (decl_list ds) id ≡ list_any (λ n. n == id.0) (check.body_names ds)
 body-there no_decl id = refl
 body-there (decl_then (DTaskBody w objects its s) rest) id = ap (λ b. (w.name.0 == id.0) || b) (body-there rest id)
 body-there (decl_then (DTask t s) rest) id = body-there rest id
@@ -52,7 +52,7 @@ body-there (decl_then (DException ws s) rest) id = body-there rest id
 body-there (decl_then (DIntIo w s) rest) id = body-there rest id
 body-there (decl_then (DPragma e s) rest) id = body-there rest id
 
-bodies-there : (ds : PDecls) (ts : List PTask) → AllByRecursion (λ (t : PTask). list_any (λ n. n == t.name.name.0) (check.body_names ds) ≡ true) ts → AllByRecursion (λ (t : PTask). has_body (decl_list ds) t.name.name ≡ true) ts
+pub bodies-there : (ds : PDecls) (ts : List PTask) → AllByRecursion (λ (t : PTask). list_any (λ n. n == t.name.name.0) (check.body_names ds) ≡ true) ts → AllByRecursion (λ (t : PTask). has_body (decl_list ds) t.name.name ≡ true) ts
 bodies-there ds [] h = tt
 bodies-there ds (t ∷ ts) h = (body-there ds t.name.name ∙ h.0, bodies-there ds ts h.1)
 
@@ -81,7 +81,7 @@ module _ (p : PProgram) (h : IsLegalOriginal p) where
   M = IsCheckMet Any (made_for p).names
 
   -- each task has a body
-  bodies-of : (bodies : List ℕ) (ds : PDecls) (c : CheckScope) → AllByRecursion M (check.decls_sites c bodies ds) → AllByRecursion (λ (t : PTask). list_any (λ n. n == t.name.name.0) bodies ≡ true) (tasks_in (decl_list ds))
+  pub bodies-of : (bodies : List ℕ) (ds : PDecls) (c : CheckScope) → AllByRecursion M (check.decls_sites c bodies ds) → AllByRecursion (λ (t : PTask). list_any (λ n. n == t.name.name.0) bodies ≡ true) (tasks_in (decl_list ds))
   bodies-of bodies no_decl c m = tt
   bodies-of bodies (decl_then (DTask t s) rest) c m = (
     there (list_any (λ n. n == t.name.name.0) bodies) s (all_front M (check.decl_sites c bodies (DTask t s)) (check.decls_sites (check.after_decl c (DTask t s)) bodies rest) m).0.bodies,
@@ -101,7 +101,7 @@ module _ (p : PProgram) (h : IsLegalOriginal p) where
   bodies-of bodies (decl_then (DIntIo w s) rest) c m = bodies-of bodies rest (check.after_decl c (DIntIo w s)) (all_back M (check.decl_sites c bodies (DIntIo w s)) (check.decls_sites (check.after_decl c (DIntIo w s)) bodies rest) m)
   bodies-of bodies (decl_then (DPragma e s) rest) c m = bodies-of bodies rest (check.after_decl c (DPragma e s)) (all_back M (check.decl_sites c bodies (DPragma e s)) (check.decls_sites (check.after_decl c (DPragma e s)) bodies rest) m)
 
-  declared : AllByRecursion (λ (t : PTask). has_body (decl_list q.decls) t.name.name ≡ true) (tasks_of q)
+  pub declared : AllByRecursion (λ (t : PTask). has_body (decl_list q.decls) t.name.name ≡ true) (tasks_of q)
   declared = bodies-there q.decls (tasks_of q) (bodies-of (check.body_names q.decls) q.decls (check.around_program q) decls-checked)
     where
       decls-checked : AllByRecursion M (check.decls_sites (check.around_program q) (check.body_names q.decls) q.decls)
@@ -110,7 +110,7 @@ module _ (p : PProgram) (h : IsLegalOriginal p) where
           let its_body = check.body_sites (check.after_decls (check.around_program q) q.decls) 1 q.body in
           all_front M decls its_body (all_front M (decls ++ its_body) (check.counted_sites (check.around_program q) q) (all_check_met q Any (normal_is_legal p h).check_rules).1)
 
-  body-of : (t : ℕ) (info : TaskInfo) → task_at F (suc t) ≡ Some info → has_body (decl_list q.decls) info.unit ≡ true
+  pub body-of : (t : ℕ) (info : TaskInfo) → task_at F (suc t) ≡ Some info → has_body (decl_list q.decls) info.unit ≡ true
   body-of t info at = go (slice_get (tasks_of q) t) refl
     where
       go : (o : Option PTask) → slice_get (tasks_of q) t ≡ o → has_body (decl_list q.decls) info.unit ≡ true

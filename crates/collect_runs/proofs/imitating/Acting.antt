@@ -1,5 +1,5 @@
 -- What each task of a collecting text does beside the law's copy, whatever the world: its output, its local steps and its offers, and what it tells.
-use Rattle.std.proofs.Common.{◌≡◌, ℕ, ◌==◌, Bool, true, false, if◌then◌else◌, [], ◌∷◌, None, refl, sym, ap, ◌∙◌, subst, true≢false}
+use Rattle.std.proofs.Common.{◌≡◌, ℕ, Bool, true, false, [], ◌∷◌, None, refl, sym, ap, ◌∙◌, subst, true≢false}
 use Rattle.std.specs.Prelude.{ℤ}
 use Rattle.event_machine.specs.declared.CallForm.{CallForm}
 use Rattle.common_lemmas.proofs.Numbers.{equal_self}
@@ -27,6 +27,7 @@ use Rattle.collect_runs.specs.imitating.Settings.{Collecting, original_of, colle
 use Rattle.collect_runs.specs.imitating.Copies.{MeetsCopy}
 use Rattle.collect_runs.proofs.recorder.Taking.{recorders_take_notes}
 use Rattle.collect_runs.proofs.imitating.Reaching.{Arrives, comes, leads}
+use Rattle.run_laws.proofs.collecting.Lines.{end_other}
 
 -- a task with a local step offers nothing
 pub task-rests : (t : Task) → can_step t ≡ true → offer_of t ≡ Nothing
@@ -37,13 +38,13 @@ task-rests t h = go (stand_of t) h
     go (Raises e) k = refl
     go (At offer) k = absurd (true≢false (sym k))
 
-nothing_calls : (form : CallForm) (e : ℕ) (i : ℤ) → Nothing ≡ Calls form e i → ⊥
+pub nothing_calls : (form : CallForm) (e : ℕ) (i : ℤ) → Nothing ≡ Calls form e i → ⊥
 nothing_calls form e i h = let p : ◌≡◌ {A = Offer} Nothing (Calls form e i) = h in cc
 
-nothing_finishes : Nothing ≡ Finishes → ⊥
+pub nothing_finishes : Nothing ≡ Finishes → ⊥
 nothing_finishes h = let p : ◌≡◌ {A = Offer} Nothing Finishes = h in cc
 
-nothing_ends : Nothing ≡ Ends → ⊥
+pub nothing_ends : Nothing ≡ Ends → ⊥
 nothing_ends h = let p : ◌≡◌ {A = Offer} Nothing Ends = h in cc
 
 -- so one that offers something has none
@@ -56,14 +57,6 @@ offering-rests t some = go (can_step t) refl
 
 alike-output : (x : Texts) (t : ℕ) {σ κ : Task} → Alike (unit_translation x t) σ κ → κ.output ≡ σ.output
 alike-output x t (alike n input output c d follows) = refl
-
--- the main program alone does not tell of its end
-pub end-other : (note t : ℕ) → based_offer note t Ends ≡ telling note → (t == 0) ≡ false
-end-other note t h = go (t == 0) refl h
-  where
-    go : (b : Bool) → (t == 0) ≡ b → (if b then Ends else telling note) ≡ telling note → (t == 0) ≡ false
-    go true q k = absurd (end_tells note k)
-    go false q k = q
 
 module _ {x : Texts} (f : Form x) (tells : TellsAlike f) (c : Collecting x) where
   abbrev k : Recorder
@@ -158,7 +151,7 @@ module _ {x : Texts} (f : Form x) (tells : TellsAlike f) (c : Collecting x) wher
       (ap (based_note t) q) (λ answer. ap (λ (o : Offer). told t o σ) q)
   based-tells t σ κ h Ends q is =
       let rests : can_step σ ≡ false = offering-rests σ (λ none. nothing_ends (sym none ∙ q)) in
-      noting-tells κ (Based t σ) (AtEnd t) (Leaving t σ) (λ answer. IsLeaving f t σ) (λ answer j h. h) ((tells.acts t σ κ h rests).at_end q (end-other x.note t is))
+      noting-tells κ (Based t σ) (AtEnd t) (Leaving t σ) (λ answer. IsLeaving f t σ) (λ answer j h. h) ((tells.acts t σ κ h rests).at_end q (end_other x.note t is))
       (ap (based_note t) q) (λ answer. ap (λ (o : Offer). told t o σ) q)
   based-tells t σ κ h (Aborts v) q is = absurd (abort_tells v x.note is)
 

@@ -34,7 +34,7 @@ use Rattle.collect_runs.proofs.imitating.Worlds.{free-other}
 use Rattle.collect_runs.proofs.imitating.Moving.{at-state, local-is, goes-on, happens-now}
 
 -- a call is one
-call-is : (offer : Offer) → is_call offer ≡ true → (form : CallForm) × (e : ℕ) × (i : ℤ) × (offer ≡ Calls form e i)
+pub call-is : (offer : Offer) → is_call offer ≡ true → (form : CallForm) × (e : ℕ) × (i : ℤ) × (offer ≡ Calls form e i)
 call-is (Calls form e i) h = (form, e, i, refl)
 call-is Nothing h = absurd (true≢false (sym h))
 call-is (Waits choices) h = absurd (true≢false (sym h))

@@ -64,7 +64,7 @@ true-name = (refl, omega arith, refl)
 letter-p : IsIdentifier (codes "P")
 letter-p = (refl, omega arith, refl)
 
-letter-t : IsIdentifier (codes "T")
+pub letter-t : IsIdentifier (codes "T")
 letter-t = (refl, omega arith, refl)
 
 letter-e : IsIdentifier (codes "E")

@@ -101,7 +101,7 @@ module _ (p : PProgram) (h : IsLegalOriginal p) (inputs : List (List ℤ)) where
       ∙ length-append (form_in p).numbers.tasks _
       ∙ (let e : recorder_number p + 1 ≡ suc (recorder_number p) = omega arith in e)
 
-  same-size : (starting p inputs).program.size ≡ (starting_form p inputs).program.size
+  pub same-size : (starting p inputs).program.size ≡ (starting_form p inputs).program.size
   same-size = length_first (record { program = p; types = types_in p; inputs = inputs }) (numbers_of p) (length (numbers_of p).tasks) ∙ as-many-numbers p h ∙ sym form-size
 
   -- by the numbers that the rewriting gives it, the text starts as by its own

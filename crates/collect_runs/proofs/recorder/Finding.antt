@@ -25,7 +25,7 @@ use Rattle.collect_runs.proofs.recorder.Flags.{flag-place, flag-read, flag-chang
 -- ---- names that are apart
 
 -- a name that no variable has
-absent-named : (vars : Variables) (id : NameId) → AllByRecursion (λ (y : NameId). (id.0 == y.0) ≡ false) (map (λ (o : Object). o.name) vars) → object_named vars id ≡ None
+pub absent-named : (vars : Variables) (id : NameId) → AllByRecursion (λ (y : NameId). (id.0 == y.0) ≡ false) (map (λ (o : Object). o.name) vars) → object_named vars id ≡ None
 absent-named [] id differ = refl
 absent-named (o ∷ vars) id differ = ap (λ (b : Bool). cond b (Some o) (object_named vars id)) (unequal_turned id.0 o.name.0 differ.0) ∙ absent-named vars id differ.1
 

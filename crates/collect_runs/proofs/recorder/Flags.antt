@@ -57,7 +57,7 @@ flags-down t (suc n) = ap (λ (vs : List Value). Truth false ∷ vs) (flags-down
 -- ---- arrays of flags
 
 -- the place of a task's flag
-place-is : (c n : ℕ) → c ≤ n → place_in (record { kind = integer_kind; first = pos 0; last = pos n }) (pos c) ≡ Ok c
+pub place-is : (c n : ℕ) → c ≤ n → place_in (record { kind = integer_kind; first = pos 0; last = pos n }) (pos c) ≡ Ok c
 place-is c n l =
     let same : pos c -ℤ pos 0 ≡ pos c = omega (arith, ints) in
     ap (λ (b : Bool). if b && int_le (pos c) (pos n) then Ok (unsigned_abs (pos c -ℤ pos 0)) else Err raised.Constraint) (le-leb 0 c (omega arith))

@@ -33,7 +33,7 @@ use Rattle.collect_runs.specs.recorder.States.{lines_of, standing, flags_object,
 use Rattle.collect_runs.proofs.recorder.Flags.{flags-down}
 use Rattle.collect_runs.proofs.recorder.Finding.{truth-alone}
 
-count-is : (n : ℕ) → count_to ((pos n -ℤ pos 0) +ℤ pos 1) ≡ suc n
+pub count-is : (n : ℕ) → count_to ((pos n -ℤ pos 0) +ℤ pos 1) ≡ suc n
 count-is n = let e : (pos n -ℤ pos 0) +ℤ pos 1 ≡ pos (suc n) = omega (arith, ints) in ap count_to e
 
 module _ (k : Recorder) (note : ℕ) (h : IsRecorder k note) where

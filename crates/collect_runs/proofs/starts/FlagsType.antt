@@ -31,13 +31,11 @@ use Rattle.task_laws.proofs.legal.types.GoodScopes.{names-kept}
 use Rattle.task_laws.proofs.legal.types.MainScopes.{grows-decls}
 use Rattle.normal_model.specs.Ranges.{word_at, marked}
 use Rattle.normal_laws.specs.structure.asked.Pieces.{IsAmong, first_among, later_among}
-use Rattle.normal_laws.specs.structure.types.Laws.{AreOwn}
 use Rattle.normal_laws.specs.runs.forms.Normalisable.{numbers_of}
 use Rattle.normal_laws.specs.existence.Laws.{IsLegalOriginal}
 use Rattle.normal_laws.proofs.structure.numbers.Listed.{firsts, vars, tasks, bodies}
 use Rattle.normal_laws.proofs.legality.scopes.Later.{decl-kept}
 use Rattle.normal_laws.proofs.legality.checks.Tasks.{among-front, among-back}
-use Rattle.normal_laws.proofs.legality.checks.Facts as facts
 use Rattle.replay_model.specs.ReplayTree.{is_added_object, last_task}
 use Rattle.collect_model.specs.declared.AddedNames.{AddedNames}
 use Rattle.collect_model.specs.Noting.{number}
@@ -47,6 +45,7 @@ use Rattle.collect_structure.proofs.declares_once.Legal.{legal_collect_declares_
 use Rattle.collect_runs.specs.starts.Texts.{text_for, names_added}
 use Rattle.collect_runs.specs.starts.Laws.{LegalHasFlags}
 use Rattle.collect_runs.proofs.starts.Once.{places-once}
+use Rattle.replay_runs.proofs.controls.replayed.Originals.{own}
 
 -- ---- the type, where its declaration stands
 
@@ -71,13 +70,13 @@ module _ (n : AddedNames) (sp : Span) (last : ℕ) where
   array_of_flags = record { limits = truth_limits; index = Some record { kind = integer_kind; first = pos 0; last = pos last } }
 
   -- the table has the type, its kind, and the mark of its components
-  record HasType (T : TypeTable) : Type 0 where
-    place : ℕ
-    named : mark_named T n.flags ≡ Some (own_mark place)
-    there : kind_at T place ≡ Some (Array 0 (pos 0) (pos last) 3)
-    part : mark_at T 3 ≡ Some truth_mark
+  pub record HasType (T : TypeTable) : Type 0 where
+    pub place : ℕ
+    pub named : mark_named T n.flags ≡ Some (own_mark place)
+    pub there : kind_at T place ≡ Some (Array 0 (pos 0) (pos last) 3)
+    pub part : mark_at T 3 ≡ Some truth_mark
 
-  type-stays : (T U : TypeTable) → Grows T U → HasType T → HasType U
+  pub type-stays : (T U : TypeTable) → Grows T U → HasType T → HasType U
   type-stays T U g h = record {
     place = h.place;
     named = find-grown (λ (x : Mark). is_named n.flags x.name) T.marks U.marks g.mark (own_mark h.place) h.named;
@@ -86,7 +85,7 @@ module _ (n : AddedNames) (sp : Span) (last : ℕ) where
   }
 
   -- so an object of it is an array of BOOLEAN
-  type-form : (T : TypeTable) → HasType T → form_of T (OPlain (marked w)) ≡ Some array_of_flags
+  pub type-form : (T : TypeTable) → HasType T → form_of T (OPlain (marked w)) ≡ Some array_of_flags
   type-form T h =
       let m : Mark = own_mark h.place in
       let same : form_of_mark T m ≡ array_of_flags =
@@ -95,13 +94,13 @@ module _ (n : AddedNames) (sp : Span) (last : ℕ) where
       ap (plain_form T (marked w)) h.named ∙ ap (λ (y : Form). Some (marked_form T (marked w) m y.index)) same ∙ ap (λ (y : Form). Some y) same
 
   -- what is known of a scope of main: each predefined type is there, and BOOLEAN means it
-  record IsReady (s : Scope) : Type 0 where
-    here : InHere s
-    unmarked : AreUnmarked s
-    truth : meaning s (record { 0 = 3 }) ≡ Some (TypeMark 3)
-    grows : Grows predefined_types s.types
+  pub record IsReady (s : Scope) : Type 0 where
+    pub here : InHere s
+    pub unmarked : AreUnmarked s
+    pub truth : meaning s (record { 0 = 3 }) ≡ Some (TypeMark 3)
+    pub grows : Grows predefined_types s.types
 
-  ready-next : (x : PDecl) (s : Scope) → AllByRecursion (IsUnused s) (names_declared x) → IsReady s → IsReady (after_decl s x)
+  pub ready-next : (x : PDecl) (s : Scope) → AllByRecursion (IsUnused s) (names_declared x) → IsReady s → IsReady (after_decl s x)
   ready-next x s u h = record {
     here = here-decl x s h.here;
     unmarked = λ id f. decl-marks x s id f ∙ h.unmarked id (decl-before s h.here x u id f);
@@ -109,11 +108,11 @@ module _ (n : AddedNames) (sp : Span) (last : ℕ) where
     grows = grows-on h.grows (grows-decl x s);
   }
 
-  truth-marking : (s : Scope) → IsReady s → marking s (record { 0 = 3 }) ≡ ScalarMark 3 1
+  pub truth-marking : (s : Scope) → IsReady s → marking s (record { 0 = 3 }) ≡ ScalarMark 3 1
   truth-marking s h =
       ap (marking_of s.types) h.truth ∙ ap (marking_of_mark s.types 3) (h.grows.mark 3 truth_mark refl) ∙ ap (marking_of_kind 3 1) (h.grows.kind 1 Truth refl)
 
-  type-there : (s : Scope) → IsReady s → IsUnused s w → HasType (after_decl s d).types
+  pub type-there : (s : Scope) → IsReady s → IsUnused s w → HasType (after_decl s d).types
   type-there s h u =
       subst HasType
       (sym (ap (λ (m : Marking). (made_array (Some n.flags) (subind_made s m None).types (drange_range s index) (subind_made s m None).mark).types) (truth-marking s h)))
@@ -125,11 +124,11 @@ module _ (n : AddedNames) (sp : Span) (last : ℕ) where
       }
 
   -- behind all declarations it is still there
-  type-among : (l : List PDecl) (s : Scope) → IsAmong d l → IsReady s → DeclareOnce s (decls_of l) → HasType (after_decls s (decls_of l)).types
+  pub type-among : (l : List PDecl) (s : Scope) → IsAmong d l → IsReady s → DeclareOnce s (decls_of l) → HasType (after_decls s (decls_of l)).types
   type-among l s (first_among xs) h once = type-stays (after_decl s d).types _ (grows-decls (decls_of xs) (after_decl s d)) (type-there s h once.0.0)
   type-among l s (later_among y xs i) h once = type-among xs (after_decl s y) i (ready-next y s once.0 h) once.1
 
-  ready-first : (name : Word) → is_predefined name.name.0 ≡ false → IsReady (first_scope name)
+  pub ready-first : (name : Word) → is_predefined name.name.0 ≡ false → IsReady (first_scope name)
   ready-first name new = record {
     here = first-here name;
     unmarked = first-unmarked name new;
@@ -139,11 +138,11 @@ module _ (n : AddedNames) (sp : Span) (last : ℕ) where
 
   -- ---- its declaration among those of the text
 
-  main-has : (instance : Bool) → IsAmong d (main_declared n sp instance last)
+  pub main-has : (instance : Bool) → IsAmong d (main_declared n sp instance last)
   main-has true = first_among _
   main-has false = later_among _ _ (first_among _)
 
-behind-has : (names : List (List ℕ)) (d : PDecl) (ds xs : List PDecl) → IsAmong d ds → IsAmong d (behind_own names ds xs)
+pub behind-has : (names : List (List ℕ)) (d : PDecl) (ds xs : List PDecl) → IsAmong d ds → IsAmong d (behind_own names ds xs)
 behind-has names d ds [] i = i
 behind-has names d ds (x ∷ xs) i = by_test (is_added_object names x) (behind-has names d ds xs i)
   where
@@ -155,23 +154,20 @@ module _ (p : PProgram) (h : IsLegalOriginal p) where
   abbrev T : TypeTable
   T = types_in p
 
-  own : AreOwn p p.decls
-  own = (facts.olds p h).2
-
   abbrev last : ℕ
-  last = last_task (form p T (numbers_of p) own).numbers
+  last = last_task (form p T (numbers_of p) (own p h)).numbers
 
   abbrev flags : PDecl
   flags = flags_type (names_added p) p.name.span last
 
   abbrev all : List PDecl
-  all = firsts p T (numbers_of p) ++ added_of p T (numbers_of p) own
+  all = firsts p T (numbers_of p) ++ added_of p T (numbers_of p) (own p h)
 
   flags-there : IsAmong flags all
   flags-there =
-      let x = told p T (numbers_of p) own in
-      let q : PProgram = normal p T (numbers_of p) own in
-      let first : List PDecl = behind_own q.names (more p T (numbers_of p) own) (vars p T (numbers_of p)) in
+      let x = told p T (numbers_of p) (own p h) in
+      let q : PProgram = normal p T (numbers_of p) (own p h) in
+      let first : List PDecl = behind_own q.names (more p T (numbers_of p) (own p h)) (vars p T (numbers_of p)) in
       let middle : List PDecl = map (collect_decl x q.names) (tasks p T (numbers_of p)) in
       let copies : List PDecl = map (collect_decl x q.names) (bodies p T (numbers_of p)) in
       among-back flags (firsts p T (numbers_of p)) _
@@ -179,13 +175,13 @@ module _ (p : PProgram) (h : IsLegalOriginal p) where
       (among-front flags (first ++ middle ++ (recorder_told x q ∷ [])) copies
       (among-front flags (first ++ middle) (recorder_told x q ∷ [])
       (among-front flags first middle
-      (behind-has q.names flags (more p T (numbers_of p) own) (vars p T (numbers_of p)) (main-has (names_added p) p.name.span last _))))))
+      (behind-has q.names flags (more p T (numbers_of p) (own p h)) (vars p T (numbers_of p)) (main-has (names_added p) p.name.span last _))))))
 
   once : NamesOnce p.name (text_for p).decls
   once = places-once (text_for p) (legal_collect_declares_once p h)
 
   listed : (text_for p).decls ≡ decls_of all
-  listed = ap decls_of (collect-list p T (numbers_of p) own)
+  listed = ap decls_of (collect-list p T (numbers_of p) (own p h))
 
   has-flags-there :
       form_of (types_in (text_for p)) (OPlain (marked (word_at p.name.span (names_added p).flags))) ≡ Some (array_of_flags (names_added p) p.name.span last)

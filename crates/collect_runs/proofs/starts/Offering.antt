@@ -1,8 +1,7 @@
 -- What a task offers: no abort where no abort statement stands in it, and calls of entries that are in the numbers.
-use Rattle.std.proofs.Common.{◌≡◌, ℕ, ◌+◌, ◌≤◌, ◌==◌, Bool, true, false, ◌&&◌, List, [], ◌∷◌, length, position, Option, Some, None, option_map, unwrap_or, Result, Ok, Err, refl, sym, subst, true≢false, arith}
-use Rattle.std.specs.Prelude.{ℤ, pos}
+use Rattle.std.proofs.Common.{◌≡◌, ℕ, ◌≤◌, Bool, true, false, List, [], ◌∷◌, length, Result, Ok, Err, refl, sym, subst, true≢false}
+use Rattle.std.specs.Prelude.{ℤ}
 use Rattle.std.proofs.lemmas.Bool.{and_parts}
-use Rattle.std.proofs.lemmas.List.Quantifiers.{position-Some}
 use Rattle.event_machine.specs.declared.CallForm.{CallForm}
 use Rattle.event_machine.specs.declared.CallForm.TheVariants.{Plain, Conditional, Timed}
 use Rattle.ada_value.specs.Values.{and_then}
@@ -10,11 +9,8 @@ use Rattle.event_machine.specs.declared.Choice.{Choice}
 use Rattle.event_machine.specs.Offers.{same_member, calls_in, is_any_form}
 use Rattle.event_machine.specs.Worlds.{aborts}
 use Rattle.event_machine.proofs.Basics.{same_member-true}
-use Rattle.ada_tree.specs.declared.naming.NameId.{NameId}
 use Rattle.ada_tree.specs.PlainStmt.{PCallee, PCall, PStmt, SAbort, SCall, SAccept, SWait, SConditional, STimed, PStmts, no_stmt, stmt_then}
 use Rattle.ada_value.specs.declared.values.Raised.{Raised}
-use Rattle.syn_event.specs.declared.numbering.EntryInfo.{EntryInfo}
-use Rattle.syn_event.specs.Numbering.{Numbering}
 use Rattle.task_model.specs.Setting.{callee_task, entry_of, member_index, lists_of, Lists, entry_parameters}
 use Rattle.task_model.specs.Frames.{Around, OwnBody, Block, Handling, Loop, Opened}
 use Rattle.task_model.specs.Tasks.{Task, rest_of, place_of, vars_of}
@@ -24,6 +20,7 @@ use Rattle.task_model.specs.Stands.{Stand, call_stand, choices_stand, wait_stand
 use Rattle.task_laws.specs.statements.Each.{Loops, InStmts, loops_of, HoldsOf}
 use Rattle.task_laws.proofs.invariants.Variables.{chain, ok_path}
 use Rattle.collect_runs.specs.starts.Laws.{IsNoAbort}
+use Rattle.collect_structure.proofs.placed.Made.{entry-few}
 
 -- ---- aborts
 
@@ -68,17 +65,6 @@ module _ (t : Task) (v : ℕ) where
 
 -- ---- calls
 
-some_entry : EntryInfo
-some_entry = record { name = record { 0 = 0 }; owner = 0; family = false; first = pos 0; last = pos 0; added = false; stands_for = None }
-
--- an entry that is found by a name is in the numbers
-found-within : (numbers : Numbering) (owner : ℕ) (name : NameId) → entry_of numbers owner name ≤ length numbers.entries
-found-within numbers owner name = go (position (λ (info : EntryInfo). (info.owner == owner) && (info.name.0 == name.0)) numbers.entries) refl
-  where
-    go : (o : Option ℕ) → position (λ (info : EntryInfo). (info.owner == owner) && (info.name.0 == name.0)) numbers.entries ≡ o → unwrap_or (option_map (λ k. k + 1) o) 0 ≤ length numbers.entries
-    go None q = omega arith
-    go (Some k) q = let l = (position-Some (λ (info : EntryInfo). (info.owner == owner) && (info.name.0 == name.0)) numbers.entries k some_entry q).0 in omega (arith, l)
-
 module _ (t : Task) (e : ℕ) (i : ℤ) where
   abbrev Within : Stand → Type 0
   Within s = calls_in is_any_form e i (offered s) ≡ true → e ≤ length t.setting.numbers.entries
@@ -99,7 +85,7 @@ module _ (t : Task) (e : ℕ) (i : ℤ) where
       let index = chain (member_index t.setting (vars_of t) found lists.index)
       (λ j. and_then (openings t.setting.types (vars_of t) (entry_parameters t.setting found) lists.actuals) (λ vs. Ok record { entry = found; index = j; values = vs })) c owner.rest in
       let values = chain (openings t.setting.types (vars_of t) (entry_parameters t.setting found) lists.actuals) (λ vs. Ok record { entry = found; index = index.value; values = vs }) c index.rest in
-      subst (λ (d : Called). d.entry ≤ length t.setting.numbers.entries) (ok_path values.rest) (found-within t.setting.numbers owner.value call.entry.name)
+      subst (λ (d : Called). d.entry ≤ length t.setting.numbers.entries) (ok_path values.rest) (entry-few t.setting.numbers owner.value call.entry.name)
 
   choices-within : (cs : List Choice) → Within (choices_stand cs)
   choices-within [] k = absurd (true≢false (sym k))

@@ -1,5 +1,5 @@
 -- Who owns the entries of a collecting text: those of the normal form their owners, and NOTE, which stands behind them, the recorder.
-use Rattle.std.proofs.Common.{◌≡◌, ℕ, zero, suc, ◌+◌, ◌<◌, ◌≤◌, ◌==◌, ◌&&◌, Bool, true, false, not, cond, nat_lt, List, [], ◌∷◌, ◌++◌, length, length-append, slice_get, Option, Some, None, option_map, unwrap_or, refl, sym, ap, ◌∙◌, arith}
+use Rattle.std.proofs.Common.{◌≡◌, ℕ, zero, suc, ◌+◌, ◌<◌, ◌≤◌, ◌==◌, ◌&&◌, Bool, true, false, not, cond, nat_lt, List, [], ◌∷◌, ◌++◌, length, length-append, Option, Some, None, option_map, unwrap_or, refl, sym, ap, ◌∙◌, arith}
 use Rattle.std.specs.Option.{option_map_or}
 use Rattle.std.specs.List.{AllByRecursion, position_or_len}
 use Rattle.common_lemmas.proofs.Lists.{seam_there, all_by_place}
@@ -11,12 +11,7 @@ use Rattle.replay_structure.proofs.spots.Placed.{entry-suc}
 use Rattle.replay_model.specs.ReplayTree.{last_task}
 use Rattle.collect_model.specs.declared.AddedNames.{AddedNames}
 use Rattle.collect_model.specs.CollectNumbers.{note_info, numbers_with}
-
--- what stands in the first of two lists
-in-front : {A : Type 0} (xs ys : List A) (i : ℕ) → i < length xs → slice_get (xs ++ ys) i ≡ slice_get xs i
-in-front [] ys i l = absurd (omega (arith, l))
-in-front (x ∷ xs) ys zero l = refl
-in-front (x ∷ xs) ys (suc i) l = in-front xs ys i (omega (arith, l))
+use Rattle.task_laws.proofs.legal.rewritten_values.Saying.{place-within}
 
 -- the first that passes stands last
 place-last : {A : Type 0} (p : A → Bool) (xs : List A) (y : A) → AllByRecursion (λ (x : A). p x ≡ false) xs → p y ≡ true → position_or_len p (xs ++ y ∷ []) ≡ length xs
@@ -37,7 +32,7 @@ module _ (n : AddedNames) (numbers : Numbering) where
   same-owner zero l = refl
   same-owner (suc m) l =
       ap (λ (o : Option EntryInfo). option_map_or (λ info. info.owner) o 0)
-      (entry-suc (numbers_with n numbers) m ∙ in-front numbers.entries (note_info n (last_task numbers) ∷ []) m (omega (arith, l)) ∙ sym (entry-suc numbers m))
+      (entry-suc (numbers_with n numbers) m ∙ place-within numbers.entries (note_info n (last_task numbers) ∷ []) m (omega (arith, l)) ∙ sym (entry-suc numbers m))
 
   -- ---- NOTE is found
 

@@ -41,17 +41,17 @@ use Rattle.collect_runs.specs.starts.Texts.{text_for, names_added}
 -- ---- names
 
 -- the ids have these texts, one by one
-abbrev Say : List (List ℕ) → List NameId → List (List ℕ) → Type 0
+abbrev pub Say : List (List ℕ) → List NameId → List (List ℕ) → Type 0
 Say names [] [] = Unit {0}
 Say names (i ∷ is) (t ∷ ts) = (text_of names i ≡ t) × Say names is ts
 Say names is ts = ⊥
 
 -- no text of the list stands in it twice
-abbrev all_differ : List (List ℕ) → Bool
+abbrev pub all_differ : List (List ℕ) → Bool
 all_differ [] = true
 all_differ (t ∷ ts) = not (list_any (bytes_eq t) ts) && all_differ ts
 
-one-apart : (names : List (List ℕ)) (i : NameId) (a : List ℕ) → text_of names i ≡ a → (is : List NameId) (ts : List (List ℕ)) → Say names is ts → list_any (bytes_eq a) ts ≡ false →
+pub one-apart : (names : List (List ℕ)) (i : NameId) (a : List ℕ) → text_of names i ≡ a → (is : List NameId) (ts : List (List ℕ)) → Say names is ts → list_any (bytes_eq a) ts ≡ false →
     AllByRecursion (λ (y : NameId). (i.0 == y.0) ≡ false) is
 one-apart names i a says [] [] all differ = tt
 one-apart names i a says (j ∷ is) (b ∷ ts) all differ =
@@ -60,7 +60,7 @@ one-apart names i a says (j ∷ is) (b ∷ ts) all differ =
 one-apart names i a says [] (b ∷ ts) all differ = absurd all
 one-apart names i a says (j ∷ is) [] all differ = absurd all
 
-all-apart : (names : List (List ℕ)) (is : List NameId) (ts : List (List ℕ)) → Say names is ts → all_differ ts ≡ true → AreApart is
+pub all-apart : (names : List (List ℕ)) (is : List NameId) (ts : List (List ℕ)) → Say names is ts → all_differ ts ≡ true → AreApart is
 all-apart names [] [] all differ = tt
 all-apart names (i ∷ is) (t ∷ ts) all differ =
     let both = and_both (not (list_any (bytes_eq t) ts)) (all_differ ts) differ in
@@ -84,9 +84,6 @@ module _ (p : PProgram) (h : IsLegalOriginal p) where
   there : (t : List ℕ) → Has added_texts t → text_of names (id_of names t) ≡ t
   unfolding with_added
   there t has = text-there names t (has-folded added_texts (form_in p).program.names t has)
-
-  abbrev rest : List (List ℕ)
-  rest = drop (length predefined) names
 
   pub names-apart : AreApart (record { 0 = false_name } ∷ record { 0 = true_name } ∷ variable_names (names_added p))
   names-apart =

@@ -14,7 +14,7 @@ use Rattle.task_model.specs.Tasks.{Task, rest_of}
 use Rattle.task_model.specs.Calls.{Called, called}
 use Rattle.task_model.specs.Stands.{call_stand, name_stand, steps_at, offered, can_step, offer_of}
 use Rattle.task_laws.specs.statements.Blocks.{HasLeftBlocks}
-use Rattle.task_laws.specs.translation.Translations.{Rewriting, Translation}
+use Rattle.task_laws.specs.translation.Translations.{Translation}
 use Rattle.task_laws.specs.translation.OldTexts.{only_names, OldStmt, OldStmts, old_null, old_assign, old_delay, old_exit, old_raise, old_abort, old_call, old_accept, old_wait, old_conditional, old_timed, old_put, old_put_line, old_new_line, old_get, old_if, old_case, old_block, old_loop, OldCallees, old_no_callee, old_callee}
 use Rattle.task_laws.specs.translation.Controls.{task_in, Under, on_floor, in_block, in_handler, in_endless, in_while, in_count, Follows, inside, behind, Alike, alike}
 use Rattle.normal_model.specs.Walk.{Rewriter, image_of, after_stmts, after_alts, rewritten, inside_alts, inside_maybe}
@@ -54,9 +54,6 @@ same_sort a b = sort_of a == sort_of b
 module _ (x : Texts) (can : CanTell x) (f : Form x) (t : ℕ) where
   abbrev y : Translation
   y = unit_translation x t
-
-  abbrev Y : Rewriting
-  Y = unit_rows x t
 
   abbrev X : Teller
   X = teller x t

@@ -38,7 +38,7 @@ use Rattle.normal_laws.proofs.runs.floors.Cells.{cell-set}
 use Rattle.run_laws.specs.collecting.Notes.{Note, BeforeCall, HasCallElse, HasExpired, HasFailed}
 use Rattle.run_laws.specs.collecting.Copies.{TookOther, Failed, Upset, other_note, due_note, other_in, other_part, done_by}
 use Rattle.replay_model.specs.Serving.{raise_again}
-use Rattle.collect_runs.proofs.telling.Copying.{lists_old, copies_alike}
+use Rattle.replay_runs.proofs.controls.meanings.Called.{copies_alike, lists_old}
 use Rattle.collect_model.specs.Teller.{Teller}
 use Rattle.collect_model.specs.Noting.{before_call, has_call_else, has_expired, has_failed, number, own_number, own_note}
 use Rattle.collect_model.specs.Calling.{entry_called, member_called, call_note, call_telling, tasking_error, part_is, fails_late, parts_behind, plain_image, conditional_image, timed_image}
@@ -107,7 +107,7 @@ stops-so [] es vs V = refl
 stops-so (formal ∷ fs) [] vs V = refl
 stops-so (formal ∷ fs) (e ∷ es) vs V = one-so (λ ws W. copied_back fs es ws W) (λ ws W. stops-so fs es ws W) formal.mode e vs V
 
-abbrev fits_integer : ℕ → Bool
+abbrev pub fits_integer : ℕ → Bool
 fits_integer n = is_integer_value (pos n)
 
 module _ (x : Texts) (can : CanTell x) (f : Form x) (t : ℕ) where

@@ -48,13 +48,13 @@ use Rattle.collect_runs.proofs.telling.Ending.{Ahead, ahead-heard, own-heard}
 -- ---- formals that open
 
 module _ (b : Programs) (types : AgreeOnTypes b) where
-  opened-known : {fs : List FormalParameter} → AreNamed b fs → {vs : List Value} → AreValues b vs → AreOpen b fs (opened_objects (types_before b) fs vs)
+  pub opened-known : {fs : List FormalParameter} → AreNamed b fs → {vs : List Value} → AreValues b vs → AreOpen b fs (opened_objects (types_before b) fs vs)
   opened-known none_named h = none_open
   opened-known (named_then f fs old free k) no_value =
       open_then f _ fs _ old (single-known b types f.name f.limits None (lower_bound (types_before b) f.limits) free (types.values_known f.limits.kind f.limits.first)) (opened-known k no_value)
   opened-known (named_then f fs old free k) (value_then v vs known h) = open_then f _ fs _ old (single-known b types f.name f.limits None v free known) (opened-known k h)
 
-  opened-same : (fs : List FormalParameter) (vs : List Value) → opened_objects (types_before b) fs vs ≡ opened_objects (types_after b) fs vs
+  pub opened-same : (fs : List FormalParameter) (vs : List Value) → opened_objects (types_before b) fs vs ≡ opened_objects (types_after b) fs vs
   opened-same [] vs = refl
   opened-same (f ∷ fs) [] =
       ap (λ v. opened_object f v ∷ opened_objects (types_before b) fs []) (types.values f.limits.kind f.limits.first)
@@ -62,7 +62,7 @@ module _ (b : Programs) (types : AgreeOnTypes b) where
   opened-same (f ∷ fs) (v ∷ vs) = ap (λ os. opened_object f v ∷ os) (opened-same fs vs)
 
 -- the statements of an accept body that has begun stay, though they be over
-opened-settled : (l : PStmts) (c : ℕ) (fs : List FormalParameter) (o : List PFrame) (V : Variables) → settled (control l (Opened c fs None) o V) ≡ control l (Opened c fs None) o V
+pub opened-settled : (l : PStmts) (c : ℕ) (fs : List FormalParameter) (o : List PFrame) (V : Variables) → settled (control l (Opened c fs None) o V) ≡ control l (Opened c fs None) o V
 opened-settled no_stmt c fs [] V = refl
 opened-settled no_stmt c fs (part ∷ parts) V = refl
 opened-settled (stmt_then s l) c fs o V = refl

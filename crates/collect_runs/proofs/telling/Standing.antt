@@ -33,7 +33,7 @@ no-wait : (b : Bool) (r : Result (List Open) Raised) → wait_stand b r ≡ Step
 no-wait b (Ok all) e = no-choice (choices_of b all) e
 no-wait b (Err x) e = true≢false (sym (ap is_plain e))
 
-no-name : (r : Result ℕ Raised) → name_stand r ≡ Steps → ⊥
+pub no-name : (r : Result ℕ Raised) → name_stand r ≡ Steps → ⊥
 no-name (Ok x) e = true≢false (sym (ap is_plain e))
 no-name (Err x) e = true≢false (sym (ap is_plain e))
 

@@ -31,7 +31,7 @@ use Rattle.task_laws.specs.translation.Controls.{task_in, Under, are_around}
 use Rattle.task_laws.proofs.translation.Results.{Both, both_ok, both_err, both_then}
 use Rattle.task_laws.proofs.translation.Frames.{sees-alike}
 use Rattle.task_laws.proofs.translation.Locals.{values-alike}
-use Rattle.normal_model.specs.Walk.{Rewriter, after_kind, inside_maybe, inside_alts, rewritten}
+use Rattle.normal_model.specs.Walk.{after_kind, inside_maybe, inside_alts, rewritten}
 use Rattle.run_laws.specs.collecting.Notes.{Note, HasBegun, HasElse, HasDelay}
 use Rattle.run_laws.specs.collecting.Copies.{TookElse, TookDelay, based_offer}
 use Rattle.collect_model.specs.Teller.{Teller}
@@ -79,9 +79,6 @@ module _ (x : Texts) (can : CanTell x) (f : Form x) (t : ℕ) where
     alts_delay : (g : Option PExpr) (d : ℕ) (l l' : PStmts) (s : Span) (rest rest' : PAlts) → OldOption x.programs g → Telling (only_names x.programs) (teller x t) l l' → AltsTold rest rest' →
         AltsTold (alt_then (alternative g (ADelay d l) s) rest) (alt_then (alternative g (ADelay d l') s) rest')
     alts_terminate : (g : Option PExpr) (s : Span) (rest rest' : PAlts) → OldOption x.programs g → AltsTold rest rest' → AltsTold (alt_then (alternative g ATerminate s) rest) (alt_then (alternative g ATerminate s) rest')
-
-  abbrev walk : Rewriter ℕ
-  walk = collect_rewriter (teller x t)
 
   -- an alternative in front of others
   opened-same : {S : Open → Open → Type 0} (a b : Result Bool Raised) → a ≡ b → {one one' : Result Open Raised} {rest rest' : Result (List Open) Raised} → Both S one one' → Both (AreSame S) rest rest' →

@@ -1,7 +1,6 @@
 pub mod Names
 pub mod Scopes
 pub mod Stays
-pub mod Alike
 pub mod Waits
 pub mod Asked
 pub mod Bodies

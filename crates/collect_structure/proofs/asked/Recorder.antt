@@ -14,7 +14,7 @@ use Rattle.collect_model.specs.Recording.{on_before_call, on_begun, on_finish, o
 use Rattle.collect_structure.specs.asked.Recorder.{recorder_its, note_head, RecorderPieces}
 
 -- a letter and a blank can stand in a string
-letter : (b : ℕ) → 32 ≤ b → b ≤ 126 → IsStringContent (b ∷ [])
+pub letter : (b : ℕ) → 32 ≤ b → b ≤ 126 → IsStringContent (b ∷ [])
 letter b low high = (All-from_recursion (λ (c : ℕ). (32 ≤ c) × (c ≤ 126)) (b ∷ []) ((low, high), tt), omega arith)
 
 module _ {D : Type 0} (n : AddedNames) (s : Span) (header : List ℕ) (a : Asks D) (d : D) (P : RecorderPieces n s header a d) where

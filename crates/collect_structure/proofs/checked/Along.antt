@@ -39,17 +39,19 @@ use Rattle.collect_model.specs.CollectStmts.{main_body, task_body}
 use Rattle.collect_model.specs.CollectTree.{answer_declared, part_declared, unit_declared, flags_type, main_declared, behind_own, task_telling, collect_decl}
 use Rattle.normal_model.specs.NormalTree.{main_unit}
 use Rattle.normal_model.specs.Ranges.{word_at}
-use Rattle.collect_structure.specs.Names.{added_id, kept_names}
+use Rattle.collect_structure.specs.Names.{added_id, kept_names, kept_name}
 use Rattle.collect_structure.specs.checked.Around.{IsTelling}
 use Rattle.collect_structure.specs.checked.Checkable.{IsOtherThanTruths, HasFewFormals}
 use Rattle.collect_structure.proofs.asked.Walk.{main-keeps, task-keeps}
-use Rattle.collect_structure.proofs.checked.Stays.{IsFormMet, IsTextMet, UsesStay, stay-out}
+use Rattle.collect_structure.proofs.checked.Stays.{IsTextMet, UsesStay, stay-out}
 use Rattle.collect_structure.proofs.checked.Asked.{H, R, a, b, pieces}
 use Rattle.collect_structure.proofs.checked.Alike.{AreAlike, new-alike}
 use Rattle.replay_structure.proofs.checked.Plain.{object-stays, plain-decl}
 use Rattle.collect_structure.proofs.checked.Tasks.{added-declared, task-met}
-use Rattle.collect_structure.proofs.checked.Bodies.{frame-object, object-alike, use-object, answer_words, part_words, answer-new, part-new, AreBehindTasks, body-around}
+use Rattle.collect_structure.proofs.checked.Bodies.{object-alike, use-object, answer_words, part_words, answer-new, part-new, AreBehindTasks, body-around}
 use Rattle.collect_structure.proofs.checked.Before.{n, AreBefore, same-there, plain-before, answer-before, part-before, task-before, uses-there}
+use Rattle.replay_structure.proofs.checked.Stays.{IsFormMet}
+use Rattle.replay_structure.proofs.checked.Bodies.{frame-object}
 
 -- ---- what units declare more
 
@@ -215,7 +217,7 @@ module _ (g : Setting) where
   -- ---- the objects of a body
 
   record AreInside (c0 d0 c d : CheckScope) : Type 0 where
-    alike : AreAlike p c d
+    alike : AreAlike (kept_name p) c d
     left : IsFrameOf c0 c
     right : IsFrameOf d0 d
     owned : (spans : List Span) → in_body_of d.own spans ≡ in_body_of c.own spans
@@ -251,7 +253,7 @@ module _ (g : Setting) where
       }
 
   -- behind a further object, whose names are new
-  new-inside : (y : PDecl) (c0 d0 c d : CheckScope) → AreAlike p c (check.after_own_object d y) → AreInside c0 d0 c d → AreInside c0 d0 c (check.after_own_object d y)
+  new-inside : (y : PDecl) (c0 d0 c d : CheckScope) → AreAlike (kept_name p) c (check.after_own_object d y) → AreInside c0 d0 c d → AreInside c0 d0 c (check.after_own_object d y)
   new-inside y c0 d0 c d alike h =
       let f : IsFrameOf d (check.after_own_object d y) = frame-object y d in
       record {
@@ -267,8 +269,8 @@ module _ (g : Setting) where
 
   two-inside : (at : Span) (c0 d0 c d : CheckScope) → AreInside c0 d0 c d → AreInside c0 d0 c (behind_two at d)
   two-inside at c0 d0 c d h =
-      let one : AreInside c0 d0 c (check.after_own_object d (answer_declared (n p) at)) = new-inside (answer_declared (n p) at) c0 d0 c d (new-alike p Inner c d (answer_words p at) (answer-new p at) h.alike) h in
-      new-inside (part_declared (n p) at) c0 d0 c (check.after_own_object d (answer_declared (n p) at)) (new-alike p Inner c (check.after_own_object d (answer_declared (n p) at)) (part_words p at) (part-new p at) one.alike) one
+      let one : AreInside c0 d0 c (check.after_own_object d (answer_declared (n p) at)) = new-inside (answer_declared (n p) at) c0 d0 c d (new-alike (kept_name p) Inner c d (answer_words p at) (answer-new p at) h.alike) h in
+      new-inside (part_declared (n p) at) c0 d0 c (check.after_own_object d (answer_declared (n p) at)) (new-alike (kept_name p) Inner c (check.after_own_object d (answer_declared (n p) at)) (part_words p at) (part-new p at) one.alike) one
 
   two-met : (at : Span) (d : CheckScope) (ys : List PDecl) → shared_variable d (uses (record { 0 = false_name }) at) ≡ [] → AllByRecursion M' (check.own_sites (behind_two at d) (decls_of ys)) → AllByRecursion M' (check.own_sites d (decls_of (unit_declared (n p) at ++ ys)))
   two-met at d ys e later =

@@ -39,9 +39,10 @@ use Rattle.collect_structure.specs.asked.Pieces.{Pieces}
 use Rattle.collect_structure.specs.checked.Around.{IsTelling}
 use Rattle.collect_structure.proofs.checked.Scopes.{accept-around, loop-around, handler-around}
 use Rattle.normal_laws.proofs.structure.checked.Parts.{expr-stays, choices-stay, loop-stays, args-stay, plain-stays}
-use Rattle.collect_structure.proofs.checked.Stays.{IsFormMet, IsTextMet, uses-stay, callee-stays, head-stays, stay, stay-in}
+use Rattle.collect_structure.proofs.checked.Stays.{IsTextMet, uses-stay, callee-stays, head-stays, stay, stay-in}
 use Rattle.collect_structure.proofs.checked.Tasks.{added-declared}
 use Rattle.collect_structure.proofs.checked.Waits.{form-kept, places-kept, IsAgreed, accepts-kept}
+use Rattle.replay_structure.proofs.checked.Stays.{IsFormMet}
 
 module _ (g : Setting) (task : ℕ) where
   abbrev q : PProgram
@@ -69,9 +70,6 @@ module _ (g : Setting) (task : ℕ) where
 
   abbrev pub H : ℕ → Type 0
   H k = k ≤ 50
-
-  abbrev At : CheckScope → ℕ → PExpr → Type 0
-  At c k e = AllByRecursion (IsFormMet q) (check.expr_sites c k e)
 
   abbrev At' : List CheckSite → Type 0
   At' xs = AllByRecursion (IsTextMet q) xs
@@ -173,10 +171,10 @@ module _ (g : Setting) (task : ℕ) where
   -- ---- accepts
 
   -- the names in an accept are inner ones
-  accept-under : (d : CheckScope) (h : PHead) → AreUnder d (check.in_accept d (head_telling x h))
+  pub accept-under : (d : CheckScope) (h : PHead) → AreUnder d (check.in_accept d (head_telling x h))
   accept-under d h id s e = uses-under (record d { accepting = h.entry.name ∷ d.accepting; loops = [] }) (check.formal_names (head_telling x h).formals) id s e
 
-  caller-use : (d : CheckScope) (h : PHead) (s : Span) → shared_variable (check.in_accept d (head_telling x h)) (uses (added_id q caller_text) s) ≡ []
+  pub caller-use : (d : CheckScope) (h : PHead) (s : Span) → shared_variable (check.in_accept d (head_telling x h)) (uses (added_id q caller_text) s) ≡ []
   caller-use d h s =
       inner-use (record d { accepting = h.entry.name ∷ d.accepting; loops = [] }) (check.formal_names (head_telling x h).formals) (added_id q caller_text) s
       (ap (λ b. b || list_any (λ w. w.name.0 == (added_id q caller_text).0) (check.formal_names h.formals)) (equal_self (added_id q caller_text).0))

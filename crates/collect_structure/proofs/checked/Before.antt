@@ -31,10 +31,11 @@ use Rattle.collect_structure.proofs.checked.Names.{added-other}
 use Rattle.collect_structure.proofs.checked.Stays.{UsesStay}
 use Rattle.collect_structure.proofs.checked.Alike.{AreAlike, meant-alike, decl-alike, new-alike, new-object}
 use Rattle.collect_structure.proofs.checked.Bodies.{answer-new, part-new, AreBehindTasks}
+use Rattle.common_lemmas.proofs.Truth.{or_both}
 
 -- ---- one declaration
 
-single-none : (main : ℕ) (x : PDecl) → IsSingle x → IsNoType main x
+pub single-none : (main : ℕ) (x : PDecl) → IsSingle x → IsNoType main x
 single-none main (DTask t s) h = h
 single-none main (DTaskBody w objects its s) h = tt
 single-none main (DNumber w e s) h = tt
@@ -48,15 +49,15 @@ single-none main (DPragma e s) h = tt
 
 -- ---- units stay where no task is declared
 
-units-meant : (m : Meant) (c : CheckScope) (ws : List Word) → (with_meant m c ws).units ≡ c.units
+pub units-meant : (m : Meant) (c : CheckScope) (ws : List Word) → (with_meant m c ws).units ≡ c.units
 units-meant m c [] = refl
 units-meant m c (w ∷ ws) = units-meant m (with_name c w.name.0 m) ws
 
-units-value : (b : Bool) (c : CheckScope) (ws : List Word) → (with_declared_object b c ws).units ≡ c.units
+pub units-value : (b : Bool) (c : CheckScope) (ws : List Word) → (with_declared_object b c ws).units ≡ c.units
 units-value true c ws = units-meant Shared c ws
 units-value false c ws = refl
 
-units-object : (m : Option Meant) (c : CheckScope) (mark : Word) (b : Bool) (ws : List Word) → (with_object c m mark b ws).units ≡ c.units
+pub units-object : (m : Option Meant) (c : CheckScope) (mark : Word) (b : Bool) (ws : List Word) → (with_object c m mark b ws).units ≡ c.units
 units-object (Some TaskType) c mark b ws = units-meant (TaskOf mark.name) c ws
 units-object (Some MainProcedure) c mark b ws = units-value b c ws
 units-object (Some (TaskOf x)) c mark b ws = units-value b c ws
@@ -64,7 +65,7 @@ units-object (Some Shared) c mark b ws = units-value b c ws
 units-object (Some Inner) c mark b ws = units-value b c ws
 units-object None c mark b ws = units-value b c ws
 
-units-decl : (x : PDecl) (c : CheckScope) → IsPlain x → (after_decl c x).units ≡ c.units
+pub units-decl : (x : PDecl) (c : CheckScope) → IsPlain x → (after_decl c x).units ≡ c.units
 units-decl (DObject ws constant (OPlain x) i s) c p = units-object (meaning c x.mark.name) c x.mark (not constant || is_array_type c.types x.mark.name) ws
 units-decl (DObject ws constant (OArray r x) i s) c p = units-object (meaning c x.mark.name) c x.mark true ws
 units-decl (DNumber w e s) c p = refl
@@ -79,32 +80,28 @@ units-decl (DTaskBody w objects its s) c p = absurd p
 
 -- ---- the truth values stay no variables
 
-abbrev IsUnshared : CheckScope → Type 0
+abbrev pub IsUnshared : CheckScope → Type 0
 IsUnshared c = (n : ℕ) → is_truth n ≡ true → (s : Span) → shared_name (meaning c (record { 0 = n })) s ≡ []
 
 -- a name that is no truth value is none of them
-truth-other : (m n : ℕ) → is_truth m ≡ false → is_truth n ≡ true → (m == n) ≡ false
+pub truth-other : (m n : ℕ) → is_truth m ≡ false → is_truth n ≡ true → (m == n) ≡ false
 truth-other m n f t = by_test (m == n) refl
   where
     by_test : (b : Bool) → (m == n) ≡ b → b ≡ false
     by_test false e = refl
     by_test true e = absurd (true≢false (sym t ∙ ap is_truth (sym (eqb-true m n e)) ∙ f))
 
-parts : (a b : Bool) → (a || b) ≡ false → (a ≡ false) × (b ≡ false)
-parts true b e = absurd (true≢false e)
-parts false b e = (refl, e)
-
-true-meant : (m : Meant) (c : CheckScope) (ws : List Word) → list_any (λ w. is_truth w.name.0) ws ≡ false → IsUnshared c → IsUnshared (with_meant m c ws)
+pub true-meant : (m : Meant) (c : CheckScope) (ws : List Word) → list_any (λ w. is_truth w.name.0) ws ≡ false → IsUnshared c → IsUnshared (with_meant m c ws)
 true-meant m c [] n h = h
 true-meant m c (w ∷ ws) n h =
-    let f = parts (is_truth w.name.0) (list_any (λ v. is_truth v.name.0) ws) n in
+    let f = or_both (is_truth w.name.0) (list_any (λ v. is_truth v.name.0) ws) n in
     true-meant m (with_name c w.name.0 m) ws f.1 (λ k t s. ap (λ o. shared_name o s) (meant-beside c w.name.0 m record { 0 = k } (truth-other w.name.0 k f.0 t)) ∙ h k t s)
 
-true-value : (b : Bool) (c : CheckScope) (ws : List Word) → list_any (λ w. is_truth w.name.0) ws ≡ false → IsUnshared c → IsUnshared (with_declared_object b c ws)
+pub true-value : (b : Bool) (c : CheckScope) (ws : List Word) → list_any (λ w. is_truth w.name.0) ws ≡ false → IsUnshared c → IsUnshared (with_declared_object b c ws)
 true-value true c ws n h = true-meant Shared c ws n h
 true-value false c ws n h = h
 
-true-object : (m : Option Meant) (c : CheckScope) (mark : Word) (b : Bool) (ws : List Word) → list_any (λ w. is_truth w.name.0) ws ≡ false → IsUnshared c → IsUnshared (with_object c m mark b ws)
+pub true-object : (m : Option Meant) (c : CheckScope) (mark : Word) (b : Bool) (ws : List Word) → list_any (λ w. is_truth w.name.0) ws ≡ false → IsUnshared c → IsUnshared (with_object c m mark b ws)
 true-object (Some TaskType) c mark b ws n h = true-meant (TaskOf mark.name) c ws n h
 true-object (Some MainProcedure) c mark b ws n h = true-value b c ws n h
 true-object (Some (TaskOf x)) c mark b ws n h = true-value b c ws n h
@@ -112,7 +109,7 @@ true-object (Some Shared) c mark b ws n h = true-value b c ws n h
 true-object (Some Inner) c mark b ws n h = true-value b c ws n h
 true-object None c mark b ws n h = true-value b c ws n h
 
-true-task : (t : PTask) (c : CheckScope) → IsUnshared c → IsUnshared (with_name c t.name.name.0 (meant_by_task t))
+pub true-task : (t : PTask) (c : CheckScope) → IsUnshared c → IsUnshared (with_name c t.name.name.0 (meant_by_task t))
 true-task t c h k u s = go (t.name.name.0 == k) t.of_kind
   where
     go : (a b : Bool) → shared_name (option_map (λ m. m.1) (cond a (Some (t.name.name.0, if b then TaskType else TaskOf t.name.name)) (find (λ m. m.0 == k) c.names))) s ≡ []
@@ -120,7 +117,7 @@ true-task t c h k u s = go (t.name.name.0 == k) t.of_kind
     go true false = refl
     go false b = h k u s
 
-true-decl : (x : PDecl) (c : CheckScope) → IsOtherThanTruths x → IsUnshared c → IsUnshared (after_decl c x)
+pub true-decl : (x : PDecl) (c : CheckScope) → IsOtherThanTruths x → IsUnshared c → IsUnshared (after_decl c x)
 true-decl (DObject ws constant (OPlain x) i s) c n h = true-object (meaning c x.mark.name) c x.mark (not constant || is_array_type c.types x.mark.name) ws n h
 true-decl (DObject ws constant (OArray r x) i s) c n h = true-object (meaning c x.mark.name) c x.mark true ws n h
 true-decl (DTask t s) c n h = true-task t c h
@@ -135,11 +132,11 @@ true-decl (DTaskBody w objects its s) c n h = h
 
 -- ---- units
 
-entry-names : (n : AddedNames) (es : List PEntry) → map (λ (e : PEntry). e.name.name) (map (entry_telling n) es) ≡ map (λ (e : PEntry). e.name.name) es
+pub entry-names : (n : AddedNames) (es : List PEntry) → map (λ (e : PEntry). e.name.name) (map (entry_telling n) es) ≡ map (λ (e : PEntry). e.name.name) es
 entry-names n [] = refl
 entry-names n (e ∷ es) = ap (λ l. e.name.name ∷ l) (entry-names n es)
 
-unit-same : (n : AddedNames) (t : PTask) → enclosing_unit (task_telling n t) ≡ enclosing_unit t
+pub unit-same : (n : AddedNames) (t : PTask) → enclosing_unit (task_telling n t) ≡ enclosing_unit t
 unit-same n t = ap (λ es. record { name = t.name.name; entries = es }) (entry-names n t.entries)
 
 module _ (q : PProgram) where
@@ -159,7 +156,7 @@ module _ (q : PProgram) where
 module _ (q : PProgram) (c0 d0 : CheckScope) where
   -- What is known behind some declarations of main, in front of the recorder.
   pub record AreBefore (c d : CheckScope) : Type 0 where
-    pub alike : AreAlike q c d
+    pub alike : AreAlike (kept_name q) c d
     pub left : IsFrameOf c0 c
     pub right : IsFrameOf d0 d
     pub units : d.units ≡ c.units
@@ -172,7 +169,7 @@ module _ (q : PProgram) (c0 d0 : CheckScope) where
 
   pub plain-before : (x : PDecl) (c d : CheckScope) → IsPlain x → EveryDecl (kept_names q) x → IsSingle x → IsOtherThanTruths x → IsSameDecl c0.types d0.types x → AreBefore c d → AreBefore (after_decl c x) (after_decl d x)
   plain-before x c d p e single other t h = record {
-    alike = decl-alike q x c d e (same-there x c d h t) h.alike;
+    alike = decl-alike (kept_name q) x c d e (same-there x c d h t) h.alike;
     left = frame-trans c0 c (after_decl c x) h.left (decl-frame x c);
     right = frame-trans d0 d (after_decl d x) h.right (decl-frame x d);
     units = units-decl x d p ∙ h.units ∙ sym (units-decl x c p);
@@ -181,7 +178,7 @@ module _ (q : PProgram) (c0 d0 : CheckScope) where
   }
 
   -- a declaration of main that stands in the text alone, and gives no kept name a meaning
-  pub new-before : (x : PDecl) (c d : CheckScope) → IsPlain x → IsSingle x → AreAlike q c (after_decl d x) → AreBefore c d → AreBefore c (after_decl d x)
+  pub new-before : (x : PDecl) (c d : CheckScope) → IsPlain x → IsSingle x → AreAlike (kept_name q) c (after_decl d x) → AreBefore c d → AreBefore c (after_decl d x)
   new-before x c d p single alike h = record {
     alike = alike;
     left = h.left;
@@ -192,14 +189,14 @@ module _ (q : PProgram) (c0 d0 : CheckScope) where
   }
 
   pub answer-before : (s : Span) (c d : CheckScope) → AreBefore c d → AreBefore c (after_decl d (answer_declared (n q) s))
-  answer-before s c d h = new-before (answer_declared (n q) s) c d tt tt (new-object q (meaning d (record { 0 = 3 })) c d _ _ _ (answer-new q s) h.alike) h
+  answer-before s c d h = new-before (answer_declared (n q) s) c d tt tt (new-object (kept_name q) (meaning d (record { 0 = 3 })) c d _ _ _ (answer-new q s) h.alike) h
 
   pub part-before : (s : Span) (c d : CheckScope) → AreBefore c d → AreBefore c (after_decl d (part_declared (n q) s))
-  part-before s c d h = new-before (part_declared (n q) s) c d tt tt (new-object q (meaning d (record { 0 = 0 })) c d _ _ _ (part-new q s) h.alike) h
+  part-before s c d h = new-before (part_declared (n q) s) c d tt tt (new-object (kept_name q) (meaning d (record { 0 = 0 })) c d _ _ _ (part-new q s) h.alike) h
 
   pub task-before : (t : PTask) (s : Span) (c d : CheckScope) → t.of_kind ≡ false → AreBefore c d → AreBefore (after_decl c (DTask t s)) (after_decl d (DTask (task_telling (n q) t) s))
   task-before t s c d single h = record {
-    alike = meant-alike q (meant_by_task t) c d (t.name ∷ []) h.alike;
+    alike = meant-alike (kept_name q) (meant_by_task t) c d (t.name ∷ []) h.alike;
     left = frame-trans c0 c (after_decl c (DTask t s)) h.left (decl-frame (DTask t s) c);
     right = frame-trans d0 d (after_decl d (DTask (task_telling (n q) t) s)) h.right (decl-frame (DTask (task_telling (n q) t) s) d);
     units = λ i. unit-same (n q) t i ∷ h.units i;
@@ -213,8 +210,8 @@ module _ (q : PProgram) (c0 d0 : CheckScope) where
     pub uses-there : (c d : CheckScope) → AreBefore c d → UsesStay q c d
     uses-there c d h id s kept m = ap (λ o. in_body_of o (shared_name (meaning d id) s)) (h.right.own ∙ own')
 
-  added-alike : (s : Span) (c d : CheckScope) → AreAlike q c d → AreAlike q c (behind_added q s d)
-  added-alike s c d h = new-alike q (TaskOf (added_id q recorder_text)) c d (word_at s (added_id q recorder_text) ∷ []) ((λ id o. added-other q id recorder_text o refl refl), tt) h
+  added-alike : (s : Span) (c d : CheckScope) → AreAlike (kept_name q) c d → AreAlike (kept_name q) c (behind_added q s d)
+  added-alike s c d h = new-alike (kept_name q) (TaskOf (added_id q recorder_text)) c d (word_at s (added_id q recorder_text) ∷ []) ((λ id o. added-other q id recorder_text o refl refl), tt) h
 
   added-plain : (s : Span) (d : CheckScope) → ArePlain q.name.name.0 d.names → ArePlain q.name.name.0 (behind_added q s d).names
   added-plain s d h = decls-plain q.name.name.0 (decl_then (recorder_declared (n q) s) no_decl) d (refl, tt) h
@@ -227,7 +224,7 @@ module _ (q : PProgram) (c0 d0 : CheckScope) where
       ((k : ℕ) (e : PExpr) → EveryExpr (kept_names q) k e → fixed d0.types e ≡ fixed c0.types e) → AreBefore c d → AreBehindTasks q c (behind_added q s d)
   added-behind s c d a a' b b' l l' i i' main real values h =
       let f : IsFrameOf d0 (behind_added q s d) = added-frame s d h.right in
-      let like : AreAlike q c (behind_added q s d) = added-alike s c d h.alike in
+      let like : AreAlike (kept_name q) c (behind_added q s d) = added-alike s c d h.alike in
       let names : ArePlain q.name.name.0 (behind_added q s d).names = added-plain s d h.plain in
       record {
         alike = like;

@@ -6,7 +6,7 @@ use Rattle.common_lemmas.proofs.Numbers.{equal_self}
 use Rattle.ada_tree.specs.declared.naming.NameId.{NameId}
 use Rattle.ada_tree.specs.declared.naming.Span.{Span}
 use Rattle.ada_tree.specs.declared.naming.Word.{Word}
-use Rattle.ada_tree.specs.PlainDecl.{PDecl, DNumber, DObject, DEnumeration, DArray, DSubtype, DException, DIntIo, DPragma, DTask, DTaskBody, PDecls, no_decl, decl_then, decls_of}
+use Rattle.ada_tree.specs.PlainDecl.{PDecl, DNumber, DObject, DEnumeration, DArray, DSubtype, DException, DIntIo, DPragma, DTask, DTaskBody, PDecls, decls_of}
 use Rattle.ada_tree.specs.PlainExpr.{PExpr}
 use Rattle.ada_tree.specs.PlainProgram.{PProgram}
 use Rattle.ada_tree.specs.Every.{EveryExpr}
@@ -30,36 +30,11 @@ use Rattle.collect_structure.specs.checked.Around.{IsTelling}
 use Rattle.collect_structure.specs.checked.Checkable.{is_truth}
 use Rattle.collect_structure.proofs.checked.Names.{added-other}
 use Rattle.collect_structure.proofs.checked.Alike.{AreAlike, IsNewWord, meant-alike, new-alike}
-
--- ---- what names leave as it is
+use Rattle.replay_structure.proofs.checked.Bodies.{after_objects, objects-listed, objects-of, frame-object}
 
 -- ---- the objects of a body as a list
 
-abbrev pub after_objects : CheckScope → List PDecl → CheckScope
-after_objects c [] = c
-after_objects c (x ∷ xs) = after_objects (after_own_object c x) xs
-
-pub objects-listed : (ds : PDecls) (c : CheckScope) → after_own c ds ≡ after_objects c (decl_list ds)
-objects-listed no_decl c = refl
-objects-listed (decl_then x ds) c = objects-listed ds (after_own_object c x)
-
-pub objects-of : (xs : List PDecl) (c : CheckScope) → after_own c (decls_of xs) ≡ after_objects c xs
-objects-of [] c = refl
-objects-of (x ∷ xs) c = objects-of xs (after_own_object c x)
-
-pub frame-object : (x : PDecl) (c : CheckScope) → IsFrameOf c (after_own_object c x)
-frame-object (DObject ws constant shape i s) c = meant-frame Inner c ws
-frame-object (DTask t s) c = meant-frame Inner c []
-frame-object (DTaskBody w objects its s) c = meant-frame Inner c []
-frame-object (DNumber w e s) c = meant-frame Inner c []
-frame-object (DEnumeration w ws s) c = meant-frame Inner c []
-frame-object (DArray w r x s) c = meant-frame Inner c []
-frame-object (DSubtype w x s) c = meant-frame Inner c []
-frame-object (DException ws s) c = meant-frame Inner c []
-frame-object (DIntIo w s) c = meant-frame Inner c []
-frame-object (DPragma e s) c = meant-frame Inner c []
-
-frame-objects : (xs : List PDecl) (c : CheckScope) → IsFrameOf c (after_objects c xs)
+pub frame-objects : (xs : List PDecl) (c : CheckScope) → IsFrameOf c (after_objects c xs)
 frame-objects [] c = meant-frame Inner c []
 frame-objects (x ∷ xs) c =
     let h = frame-object x c in
@@ -83,7 +58,7 @@ pub use-objects : (xs : List PDecl) (c : CheckScope) (id : NameId) (s : Span) �
 use-objects [] c id s h = h
 use-objects (x ∷ xs) c id s h = use-objects xs (after_own_object c x) id s (use-object x c id s h)
 
-callee-object : (x : PDecl) (c : CheckScope) (w : Word) → main_entry c (addresses w) ≡ [] → main_entry (after_own_object c x) (addresses w) ≡ []
+pub callee-object : (x : PDecl) (c : CheckScope) (w : Word) → main_entry c (addresses w) ≡ [] → main_entry (after_own_object c x) (addresses w) ≡ []
 callee-object (DObject ws constant shape i s) c w h = callees-under c ws w h
 callee-object (DTask t s) c w h = h
 callee-object (DTaskBody v objects its s) c w h = h
@@ -95,15 +70,15 @@ callee-object (DException ws s) c w h = h
 callee-object (DIntIo v s) c w h = h
 callee-object (DPragma e s) c w h = h
 
-callee-objects : (xs : List PDecl) (c : CheckScope) (w : Word) → main_entry c (addresses w) ≡ [] → main_entry (after_objects c xs) (addresses w) ≡ []
+pub callee-objects : (xs : List PDecl) (c : CheckScope) (w : Word) → main_entry c (addresses w) ≡ [] → main_entry (after_objects c xs) (addresses w) ≡ []
 callee-objects [] c w h = h
 callee-objects (x ∷ xs) c w h = callee-objects xs (after_own_object c x) w (callee-object x c w h)
 
 module _ (q : PProgram) where
   -- ---- kept names
 
-  pub object-alike : (x : PDecl) (c d : CheckScope) → AreAlike q c d → AreAlike q (after_own_object c x) (after_own_object d x)
-  object-alike (DObject ws constant shape i s) c d h = meant-alike q Inner c d ws h
+  pub object-alike : (x : PDecl) (c d : CheckScope) → AreAlike (kept_name q) c d → AreAlike (kept_name q) (after_own_object c x) (after_own_object d x)
+  object-alike (DObject ws constant shape i s) c d h = meant-alike (kept_name q) Inner c d ws h
   object-alike (DTask t s) c d h = h
   object-alike (DTaskBody w objects its s) c d h = h
   object-alike (DNumber w e s) c d h = h
@@ -114,7 +89,7 @@ module _ (q : PProgram) where
   object-alike (DIntIo w s) c d h = h
   object-alike (DPragma e s) c d h = h
 
-  objects-alike : (xs : List PDecl) (c d : CheckScope) → AreAlike q c d → AreAlike q (after_objects c xs) (after_objects d xs)
+  objects-alike : (xs : List PDecl) (c d : CheckScope) → AreAlike (kept_name q) c d → AreAlike (kept_name q) (after_objects c xs) (after_objects d xs)
   objects-alike [] c d h = h
   objects-alike (x ∷ xs) c d h = objects-alike xs (after_own_object c x) (after_own_object d x) (object-alike x c d h)
 
@@ -125,10 +100,10 @@ module _ (q : PProgram) where
   abbrev pub part_words : Span → List Word
   part_words s = word_at s (added_id q part_text) ∷ []
 
-  pub answer-new : (s : Span) → AllByRecursion (IsNewWord q) (answer_words s)
+  pub answer-new : (s : Span) → AllByRecursion (IsNewWord (kept_name q)) (answer_words s)
   answer-new s = (λ id o. added-other q id answer_text o refl refl, tt)
 
-  pub part-new : (s : Span) → AllByRecursion (IsNewWord q) (part_words s)
+  pub part-new : (s : Span) → AllByRecursion (IsNewWord (kept_name q)) (part_words s)
   part-new s = (λ id o. added-other q id part_text o refl refl, tt)
 
   module _ (s : Span) where
@@ -139,16 +114,16 @@ module _ (q : PProgram) where
     abbrev pub with_two : CheckScope → CheckScope
     with_two d = after_objects d two
 
-    pub two-alike : (c d : CheckScope) → AreAlike q c d → AreAlike q c (with_two d)
+    pub two-alike : (c d : CheckScope) → AreAlike (kept_name q) c d → AreAlike (kept_name q) c (with_two d)
     two-alike c d h =
-        new-alike q Inner c (with_meant Inner d (answer_words s)) (part_words s) (part-new s) (new-alike q Inner c d (answer_words s) (answer-new s) h)
+        new-alike (kept_name q) Inner c (with_meant Inner d (answer_words s)) (part_words s) (part-new s) (new-alike (kept_name q) Inner c d (answer_words s) (answer-new s) h)
 
-    behind-alike : (xs : List PDecl) (c d : CheckScope) → AreAlike q c d → AreAlike q (after_objects c xs) (after_objects d (behind_own q.names two xs))
+    behind-alike : (xs : List PDecl) (c d : CheckScope) → AreAlike (kept_name q) c d → AreAlike (kept_name q) (after_objects c xs) (after_objects d (behind_own q.names two xs))
     behind-alike [] c d h = two-alike c d h
     behind-alike (x ∷ xs) c d h = go (is_added_object q.names x) (behind-alike xs (after_own_object c x) (after_own_object d x) (object-alike x c d h))
       where
-        go : (b : Bool) → AreAlike q (after_objects (after_own_object c x) xs) (after_objects (after_own_object d x) (behind_own q.names two xs)) →
-            AreAlike q (after_objects c (x ∷ xs)) (after_objects d (if b then two ++ x ∷ xs else x ∷ behind_own q.names two xs))
+        go : (b : Bool) → AreAlike (kept_name q) (after_objects (after_own_object c x) xs) (after_objects (after_own_object d x) (behind_own q.names two xs)) →
+            AreAlike (kept_name q) (after_objects c (x ∷ xs)) (after_objects d (if b then two ++ x ∷ xs else x ∷ behind_own q.names two xs))
         go true later = objects-alike (x ∷ xs) c (with_two d) (two-alike c d h)
         go false later = later
 
@@ -171,7 +146,7 @@ module _ (q : PProgram) where
 
   -- What is known of the scopes behind the tasks, in the normal form and in the text.
   pub record AreBehindTasks (c d : CheckScope) : Type 0 where
-    pub alike : AreAlike q c d
+    pub alike : AreAlike (kept_name q) c d
     pub truth : (n : ℕ) → is_truth n ≡ true → (own : Option EnclosingUnit) (s : Span) → shared_variable (record d { own = own }) (uses (record { 0 = n }) s) ≡ []
     pub values : (k : ℕ) (e : PExpr) → EveryExpr (kept_names q) k e → fixed d.types e ≡ fixed c.types e
     pub calls : (w : Word) → (w.name.0 == q.name.name.0) ≡ false → main_entry d (addresses w) ≡ []

@@ -16,10 +16,9 @@ use Rattle.collect_model.specs.Names.{collect_names}
 use Rattle.collect_structure.specs.Names.{kept_name, kept_names}
 use Rattle.collect_structure.specs.checked.Around.{IsTelling}
 use Rattle.collect_structure.proofs.checked.Names.{kept-text}
+use Rattle.replay_structure.proofs.checked.Stays.{IsFormMet}
 
--- At a place of the normal form, and of the text, none of the rules refuses anything.
-abbrev pub IsFormMet : PProgram → CheckSite → Type 0
-IsFormMet q x = IsCheckMet Any q.names x
+-- At a place of the text none of the rules refuses anything.
 
 abbrev pub IsTextMet : PProgram → CheckSite → Type 0
 IsTextMet q x = IsCheckMet Any (collect_names q) x

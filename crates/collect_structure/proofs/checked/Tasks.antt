@@ -23,8 +23,9 @@ use Rattle.collect_model.specs.Recording.{note_formals, recorder_declared}
 use Rattle.collect_structure.specs.Names.{added_id, kept_names}
 use Rattle.collect_structure.specs.checked.Checkable.{HasFewFormals}
 use Rattle.collect_structure.proofs.checked.Names.{added-text}
-use Rattle.collect_structure.proofs.checked.Stays.{IsFormMet, IsTextMet, UsesStay, name-stays, stay-out}
+use Rattle.collect_structure.proofs.checked.Stays.{IsTextMet, UsesStay, name-stays, stay-out}
 use Rattle.replay_structure.proofs.checked.Plain.{family-stays, formals-there, priorities-stay}
+use Rattle.replay_structure.proofs.checked.Stays.{IsFormMet}
 
 module _ (q : PProgram) (d : CheckScope) where
   abbrev M' : CheckSite → Type 0

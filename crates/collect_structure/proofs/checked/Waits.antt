@@ -18,24 +18,24 @@ use Rattle.collect_model.specs.CollectStmts.{collect_rewriter}
 
 -- ---- the kinds of alternatives
 
-count-step : (p : PAltKind → Bool) (x y : PAltKind) (xs ys : List PAltKind) → p x ≡ p y → count_by p xs ≡ count_by p ys → count_by p (x ∷ xs) ≡ count_by p (y ∷ ys)
+pub count-step : (p : PAltKind → Bool) (x y : PAltKind) (xs ys : List PAltKind) → p x ≡ p y → count_by p xs ≡ count_by p ys → count_by p (x ∷ xs) ≡ count_by p (y ∷ ys)
 count-step p x y xs ys e f =
     sum_by-cons (λ z. cond (p z) 1 0) x xs ∙ ap (λ t. cond t 1 0 + count_by p xs) e ∙ ap (λ n. cond (p y) 1 0 + n) f ∙ sym (sum_by-cons (λ z. cond (p z) 1 0) y ys)
 
 -- the alternatives are of the same kinds
-record SameKinds (xs ys : List PAltKind) : Type 0 where
-  accepts : count_by is_accept xs ≡ count_by is_accept ys
-  delays : count_by is_delay xs ≡ count_by is_delay ys
-  terminates : count_by is_terminate xs ≡ count_by is_terminate ys
+pub record SameKinds (xs ys : List PAltKind) : Type 0 where
+  pub accepts : count_by is_accept xs ≡ count_by is_accept ys
+  pub delays : count_by is_delay xs ≡ count_by is_delay ys
+  pub terminates : count_by is_terminate xs ≡ count_by is_terminate ys
 
-same-step : (x y : PAltKind) (xs ys : List PAltKind) → is_accept x ≡ is_accept y → is_delay x ≡ is_delay y → is_terminate x ≡ is_terminate y → SameKinds xs ys → SameKinds (x ∷ xs) (y ∷ ys)
+pub same-step : (x y : PAltKind) (xs ys : List PAltKind) → is_accept x ≡ is_accept y → is_delay x ≡ is_delay y → is_terminate x ≡ is_terminate y → SameKinds xs ys → SameKinds (x ∷ xs) (y ∷ ys)
 same-step x y xs ys e f g h = record {
   accepts = count-step is_accept x y xs ys e h.accepts;
   delays = count-step is_delay x y xs ys f h.delays;
   terminates = count-step is_terminate x y xs ys g h.terminates;
 }
 
-malformed-same : (xs ys : List PAltKind) (others : Bool) → SameKinds xs ys → is_malformed xs others ≡ is_malformed ys others
+pub malformed-same : (xs ys : List PAltKind) (others : Bool) → SameKinds xs ys → is_malformed xs others ≡ is_malformed ys others
 malformed-same xs ys others h =
     ap (λ n. (n == 0) || nat_lt 1 (count_by is_terminate xs) || nat_lt 1 (some (count_by is_terminate xs) + some (count_by is_delay xs) + one_if others)) h.accepts
     ∙ ap (λ n. (count_by is_accept ys == 0) || nat_lt 1 n || nat_lt 1 (some n + some (count_by is_delay xs) + one_if others)) h.terminates

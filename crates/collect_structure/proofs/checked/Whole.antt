@@ -20,7 +20,7 @@ use Rattle.syn_event.specs.DeclaredTasks.{decl_list, tasks_in, tasks_of}
 use Rattle.task_laws.proofs.legal.sites.Meeting.{all_check_met}
 use Rattle.task_model.specs.Setting.{Setting}
 use Rattle.normal_model.specs.NormalTree.{main_unit}
-use Rattle.normal_laws.proofs.structure.numbers.Listed.{IsOneTask, IsOneBody}
+use Rattle.normal_laws.proofs.structure.numbers.Listed.{IsOneBody}
 use Rattle.normal_laws.proofs.structure.checked.Joined.{meets-checks}
 use Rattle.normal_laws.proofs.structure.checked.MainScopes.{frame-refl}
 use Rattle.normal_laws.specs.structure.numbers.Single.{IsSingle}
@@ -39,44 +39,21 @@ use Rattle.collect_model.specs.Lines.{header_text}
 use Rattle.collect_model.specs.CollectTree.{is_int_io, entry_telling, task_telling, collect_decl, objects_told, recorder_told, recorder_body_told, collect_decls, collect_of}
 use Rattle.collect_structure.specs.Names.{added_id, kept_names}
 use Rattle.collect_structure.specs.checked.Checkable.{IsOtherThanTruths, HasFewFormals, IsCheckable}
-use Rattle.collect_structure.proofs.texts.Listed.{all-behind, all-main, recorder_tasks, collect-tasks}
-use Rattle.collect_structure.proofs.checked.Stays.{IsFormMet, IsTextMet, name-stays}
+use Rattle.collect_structure.proofs.texts.Listed.{all-behind, all-main, one-tasks, one-bodies}
+use Rattle.collect_structure.proofs.texts.Rooted.{collect-tells, collect-tasks}
+use Rattle.collect_structure.proofs.texts.Telling.{recorder_tasks, all-told-tasks, all-told-bodies, told-bodies, told-ids}
+use Rattle.collect_structure.proofs.checked.Stays.{IsTextMet, name-stays}
 use Rattle.collect_structure.proofs.checked.Tasks.{recorder-met}
 use Rattle.collect_structure.proofs.checked.Bodies.{AreBehindTasks, main-around}
 use Rattle.collect_structure.proofs.checked.Before.{AreBefore, behind_added, added-frame, added-behind}
 use Rattle.collect_structure.proofs.checked.Recorded.{recorder-body-met}
 use Rattle.collect_structure.proofs.checked.Along.{HasAlong, front-along, tasks-along, main-met, bodies-along}
+use Rattle.replay_structure.proofs.checked.Stays.{IsFormMet}
 
 -- ---- lists
 
-one-tasks : (xs : List PDecl) → AllByRecursion IsSingle xs → AllByRecursion IsOneTask (filter is_task xs)
-one-tasks [] h = tt
-one-tasks (DTask t s ∷ xs) h = (h.0, one-tasks xs h.1)
-one-tasks (DTaskBody w objects its s ∷ xs) h = one-tasks xs h.1
-one-tasks (DNumber w e s ∷ xs) h = one-tasks xs h.1
-one-tasks (DObject ws c x i s ∷ xs) h = one-tasks xs h.1
-one-tasks (DEnumeration w ws s ∷ xs) h = one-tasks xs h.1
-one-tasks (DArray w r x s ∷ xs) h = one-tasks xs h.1
-one-tasks (DSubtype w x s ∷ xs) h = one-tasks xs h.1
-one-tasks (DException ws s ∷ xs) h = one-tasks xs h.1
-one-tasks (DIntIo w s ∷ xs) h = one-tasks xs h.1
-one-tasks (DPragma e s ∷ xs) h = one-tasks xs h.1
-
-one-bodies : (xs : List PDecl) → AllByRecursion IsOneBody (filter is_body xs)
-one-bodies [] = tt
-one-bodies (DTaskBody w objects its s ∷ xs) = (tt, one-bodies xs)
-one-bodies (DTask t s ∷ xs) = one-bodies xs
-one-bodies (DNumber w e s ∷ xs) = one-bodies xs
-one-bodies (DObject ws c x i s ∷ xs) = one-bodies xs
-one-bodies (DEnumeration w ws s ∷ xs) = one-bodies xs
-one-bodies (DArray w r x s ∷ xs) = one-bodies xs
-one-bodies (DSubtype w x s ∷ xs) = one-bodies xs
-one-bodies (DException ws s ∷ xs) = one-bodies xs
-one-bodies (DIntIo w s ∷ xs) = one-bodies xs
-one-bodies (DPragma e s ∷ xs) = one-bodies xs
-
 -- bodies leave what stands around as it is
-bodies-same : (c : CheckScope) (xs : List PDecl) → AllByRecursion IsOneBody xs → after_all c xs ≡ c
+pub bodies-same : (c : CheckScope) (xs : List PDecl) → AllByRecursion IsOneBody xs → after_all c xs ≡ c
 bodies-same c [] h = refl
 bodies-same c (DTaskBody w objects its s ∷ xs) h = bodies-same c xs h.1
 bodies-same c (DTask t s ∷ xs) h = absurd h.0
@@ -89,47 +66,7 @@ bodies-same c (DException ws s ∷ xs) h = absurd h.0
 bodies-same c (DIntIo w s ∷ xs) h = absurd h.0
 bodies-same c (DPragma e s ∷ xs) h = absurd h.0
 
--- a rewritten task is a single one, and a rewritten body a body
-singles-mapped : (x : Teller) (names : List (List ℕ)) (xs : List PDecl) → AllByRecursion IsSingle xs → AllByRecursion IsSingle (map (collect_decl x names) xs)
-singles-mapped x names [] h = tt
-singles-mapped x names (DTask t s ∷ xs) h = (h.0, singles-mapped x names xs h.1)
-singles-mapped x names (DTaskBody w objects its s ∷ xs) h = (tt, singles-mapped x names xs h.1)
-singles-mapped x names (DNumber w e s ∷ xs) h = (tt, singles-mapped x names xs h.1)
-singles-mapped x names (DObject ws c y i s ∷ xs) h = (tt, singles-mapped x names xs h.1)
-singles-mapped x names (DEnumeration w ws s ∷ xs) h = (tt, singles-mapped x names xs h.1)
-singles-mapped x names (DArray w r y s ∷ xs) h = (tt, singles-mapped x names xs h.1)
-singles-mapped x names (DSubtype w y s ∷ xs) h = (tt, singles-mapped x names xs h.1)
-singles-mapped x names (DException ws s ∷ xs) h = (tt, singles-mapped x names xs h.1)
-singles-mapped x names (DIntIo w s ∷ xs) h = (tt, singles-mapped x names xs h.1)
-singles-mapped x names (DPragma e s ∷ xs) h = (tt, singles-mapped x names xs h.1)
-
-bodies-mapped : (x : Teller) (names : List (List ℕ)) (xs : List PDecl) → AllByRecursion IsOneBody xs → AllByRecursion IsOneBody (map (collect_decl x names) xs)
-bodies-mapped x names [] h = tt
-bodies-mapped x names (DTaskBody w objects its s ∷ xs) h = (tt, bodies-mapped x names xs h.1)
-bodies-mapped x names (DTask t s ∷ xs) h = absurd h.0
-bodies-mapped x names (DNumber w e s ∷ xs) h = absurd h.0
-bodies-mapped x names (DObject ws c y i s ∷ xs) h = absurd h.0
-bodies-mapped x names (DEnumeration w ws s ∷ xs) h = absurd h.0
-bodies-mapped x names (DArray w r y s ∷ xs) h = absurd h.0
-bodies-mapped x names (DSubtype w y s ∷ xs) h = absurd h.0
-bodies-mapped x names (DException ws s ∷ xs) h = absurd h.0
-bodies-mapped x names (DIntIo w s ∷ xs) h = absurd h.0
-bodies-mapped x names (DPragma e s ∷ xs) h = absurd h.0
-
-body-ids-same : (x : Teller) (names : List (List ℕ)) (xs : List PDecl) → AllByRecursion IsOneBody xs → body_ids (map (collect_decl x names) xs) ≡ body_ids xs
-body-ids-same x names [] h = refl
-body-ids-same x names (DTaskBody w objects its s ∷ xs) h = ap (λ l. w.name.0 ∷ l) (body-ids-same x names xs h.1)
-body-ids-same x names (DTask t s ∷ xs) h = absurd h.0
-body-ids-same x names (DNumber w e s ∷ xs) h = absurd h.0
-body-ids-same x names (DObject ws c y i s ∷ xs) h = absurd h.0
-body-ids-same x names (DEnumeration w ws s ∷ xs) h = absurd h.0
-body-ids-same x names (DArray w r y s ∷ xs) h = absurd h.0
-body-ids-same x names (DSubtype w y s ∷ xs) h = absurd h.0
-body-ids-same x names (DException ws s ∷ xs) h = absurd h.0
-body-ids-same x names (DIntIo w s ∷ xs) h = absurd h.0
-body-ids-same x names (DPragma e s ∷ xs) h = absurd h.0
-
-entries-kept : (n : AddedNames) (ts : List PTask) → entries_count (map (task_telling n) ts) ≡ entries_count ts
+pub entries-kept : (n : AddedNames) (ts : List PTask) → entries_count (map (task_telling n) ts) ≡ entries_count ts
 entries-kept n [] = refl
 entries-kept n (t ∷ ts) = ap₂ (λ a b. a + b) (length-map t.entries (entry_telling n)) (entries-kept n ts)
 
@@ -218,7 +155,7 @@ module _ (g : Setting) (h : IsCheckable g) where
       ∙ after-joined (front ++ tasks' ++ added ++ bodies') last d0
       ∙ after-joined (front ++ tasks' ++ added) bodies' d0
       ∙ ap (λ d. after_all d bodies') (after-joined (front ++ tasks') added d0 ∙ ap (λ d. after_all d added) (after-joined front tasks' d0))
-      ∙ bodies-same d3 bodies' (bodies-mapped x q.names bodies (one-bodies all))
+      ∙ bodies-same d3 bodies' (told-bodies x.added (collect_decl x q.names) (collect-tells x q.names) bodies (one-bodies all))
 
   -- ---- the names of bodies
 
@@ -231,7 +168,7 @@ module _ (g : Setting) (h : IsCheckable g) where
   there k i =
       ap (list_any (λ j. j == k)) (ids-of text)
       ∙ any-front k (front ++ tasks' ++ added ++ bodies') last
-      (any-back k (front ++ tasks' ++ added) bodies' (ap (list_any (λ j. j == k)) (body-ids-same x q.names bodies (one-bodies all)) ∙ sym (ap (list_any (λ j. j == k)) form-ids) ∙ i))
+      (any-back k (front ++ tasks' ++ added) bodies' (ap (list_any (λ j. j == k)) (told-ids x.added (collect_decl x q.names) (collect-tells x q.names) bodies) ∙ sym (ap (list_any (λ j. j == k)) form-ids) ∙ i))
 
   recorder-there : list_any (λ i. i == (added_id q recorder_text).0) (check.body_names p.decls) ≡ true
   recorder-there =
@@ -240,19 +177,19 @@ module _ (g : Setting) (h : IsCheckable g) where
 
   -- ---- counts
 
-  text-tasks : tasks_in text ≡ map (task_telling x.added) (tasks_of q) ++ recorder_tasks x q
+  text-tasks : tasks_in text ≡ map (task_telling x.added) (tasks_of q) ++ recorder_tasks x.added q
   text-tasks = collect-tasks x q
 
   few-tasks : length (tasks_in text) ≤ 202
   few-tasks =
-      let e : length (tasks_in text) ≡ length (map (task_telling x.added) (tasks_of q)) + 1 = ap (λ (l : List PTask). length l) text-tasks ∙ length-append (map (task_telling x.added) (tasks_of q)) (recorder_tasks x q) in
+      let e : length (tasks_in text) ≡ length (map (task_telling x.added) (tasks_of q)) + 1 = ap (λ (l : List PTask). length l) text-tasks ∙ length-append (map (task_telling x.added) (tasks_of q)) (recorder_tasks x.added q) in
       let f : length (map (task_telling x.added) (tasks_of q)) ≡ length (tasks_of q) = length-map (tasks_of q) (task_telling x.added) in
       let few : length (tasks_of q) ≤ 200 = h.few_tasks in
       omega (arith, e, f, few)
 
   few-entries : entries_count (tasks_in text) ≤ 2600
   few-entries =
-      let e : entries_count (tasks_in text) ≡ entries_count (map (task_telling x.added) (tasks_of q)) + 1 = ap entries_count text-tasks ∙ entries-joined (map (task_telling x.added) (tasks_of q)) (recorder_tasks x q) in
+      let e : entries_count (tasks_in text) ≡ entries_count (map (task_telling x.added) (tasks_of q)) + 1 = ap entries_count text-tasks ∙ entries-joined (map (task_telling x.added) (tasks_of q)) (recorder_tasks x.added q) in
       let f : entries_count (map (task_telling x.added) (tasks_of q)) ≡ entries_count (tasks_of q) = entries-kept x.added (tasks_of q) in
       let less : entries_count (tasks_of q) ≤ 1000 = h.few_entries in
       omega (arith, e, f, less)
@@ -264,9 +201,9 @@ module _ (g : Setting) (h : IsCheckable g) where
       (all_joined IsSingle (front ++ tasks') added
       (all_joined IsSingle front tasks'
       (all-behind IsSingle q.names _ plain (all-main IsSingle x.added s _ _ (tt, (tt, (tt, (tt, tt))))) (all_kept IsSingle is_plain all h.single))
-      (singles-mapped x q.names tasks (all_kept IsSingle is_task all h.single)))
+      (all-told-tasks x.added (collect_decl x q.names) (collect-tells x q.names) IsSingle (λ t k one. one) tasks (one-tasks all h.single)))
       (refl, tt))
-      (singles-mapped x q.names bodies (all_kept IsSingle is_body all h.single)))
+      (all-told-bodies x.added (collect_decl x q.names) (collect-tells x q.names) IsSingle (λ w objects its k. tt) bodies (one-bodies all)))
       (tt, tt)
 
   -- ---- places
@@ -326,7 +263,7 @@ module _ (g : Setting) (h : IsCheckable g) where
         behind-added = after-joined (front ++ tasks') added d0 ∙ ap (λ d. after_all d added) (after-joined front tasks' d0)
 
         behind-bodies : after_all d0 (front ++ tasks' ++ added ++ bodies') ≡ d3
-        behind-bodies = after-joined (front ++ tasks' ++ added) bodies' d0 ∙ ap (λ d. after_all d bodies') behind-added ∙ bodies-same d3 bodies' (bodies-mapped x q.names bodies (one-bodies all))
+        behind-bodies = after-joined (front ++ tasks' ++ added) bodies' d0 ∙ ap (λ d. after_all d bodies') behind-added ∙ bodies-same d3 bodies' (told-bodies x.added (collect_decl x q.names) (collect-tells x q.names) bodies (one-bodies all))
 
     its-main-met : AllByRecursion M' (check.body_sites (check.after_decls d0 p.decls) 1 p.body)
     its-main-met =

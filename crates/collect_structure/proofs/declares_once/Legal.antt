@@ -16,7 +16,6 @@ use Rattle.syn_event.specs.NamedTasks.{NumberedTask, task_names_of, numbered_tas
 use Rattle.syn_event.specs.AllNumbers.{info_of_task}
 use Rattle.syn_event.specs.DeclaredTasks.{decl_list, tasks_in}
 use Rattle.syn_event.proofs.DeclLists.{listed_back}
-use Rattle.syn_event.proofs.Weaker.{placed_tokens}
 use Rattle.task_model.specs.Setting.{Setting}
 use Rattle.task_laws.specs.legal.rewritten_types.Rewriting.{names_declared}
 use Rattle.normal_model.specs.Names.{variable_name, task_name}
@@ -31,8 +30,7 @@ use Rattle.normal_laws.proofs.structure.numbers.Tasked.{under, normal-tasks-of}
 use Rattle.normal_laws.specs.runs.forms.Normalisable.{numbers_of, setting_for, made_for}
 use Rattle.normal_laws.proofs.runs.forms.Numbered.{AreNumbered, none_numbered, numbered_then, unit-numbered}
 use Rattle.normal_laws.proofs.existence.units.Fields.{legal_is_ordered}
-use Rattle.normal_laws.proofs.existence.units.TasksApart.{IsNamed, members-there, all-named}
-use Rattle.normal_laws.proofs.existence.units.DeclaredNames.{tasks-good}
+use Rattle.normal_laws.proofs.existence.units.TasksApart.{IsNamed}
 use Rattle.normal_laws.specs.existence.Laws.{IsLegalOriginal}
 use Rattle.ada_decl_rules.specs.duplicates.NamedSoFar.{object_words}
 use Rattle.ada_decl_rules.specs.duplicates.NamingsInOrder.{namings_of, declared}
@@ -55,6 +53,7 @@ use Rattle.collect_structure.proofs.kept.Names.{good-own, variable-own, task-own
 use Rattle.replay_structure.proofs.declares_once.Listed.{first_names, tasks_here, unit_names, copy_names, main_name}
 use Rattle.collect_structure.proofs.declares_once.Text.{normal-named}
 use Rattle.collect_structure.proofs.declares_once.Whole.{collect_declares_once}
+use Rattle.normal_laws.proofs.legality.scopes.Main.{named as all-are-named}
 
 -- ---- lists
 
@@ -90,9 +89,6 @@ module _ (p : PProgram) (h : IsLegalOriginal p) where
 
   few : AllByRecursion (λ n. n ≤ count) (length (main_variables g) ∷ map (variables_of_body g) (decl_list p.decls))
   few = greatest-of (length (main_variables g) ∷ map (variables_of_body g) (decl_list p.decls))
-
-  all-are-named : AllByRecursion (IsNamed g) (tasks_beside g)
-  all-are-named = all-named g (tasks_beside g) (tasks-good p g.types h.legal.check_rules (placed_tokens p h.placed)) (members-there g).1
 
   -- What holds of each good name, of each variable and of each name of a task holds of all that is named.
   module _ (Own : ℕ → Type 0) (own : (x : ℕ) → IsGoodId p.names x → Own x) (variable : (k : ℕ) → k < count → Own (variable_name g k).0)
@@ -186,7 +182,7 @@ module _ (p : PProgram) (h : IsLegalOriginal p) where
     tasks-are = made-tasks g (tasks_beside g) ∙ sym (tasks-of p g.types g.numbers) ∙ normal-tasks-of p g.types (legal_is_ordered p g.types (numbers_of p) h.legal h.placed)
 
     units-kept : (here : List ℕ) → AllByRecursion Kept (tasks_names here (tasks_in (tasks p g.types g.numbers)))
-    units-kept here = subst (λ (l : List PTask). AllByRecursion Kept (tasks_names here l)) (sym tasks-are) (tasks-kept here ys (all_unmapped (IsNamed g) info ys all-are-named) good-entries)
+    units-kept here = subst (λ (l : List PTask). AllByRecursion Kept (tasks_names here l)) (sym tasks-are) (tasks-kept here ys (all_unmapped (IsNamed g) info ys (all-are-named p h)) good-entries)
 
     -- ---- bodies
 
@@ -229,7 +225,7 @@ module _ (p : PProgram) (h : IsLegalOriginal p) where
     each-kept no_decl a l = tt
     each-kept (decl_then (DTaskBody w objects its s) rest) a l =
         all_joined KeptBody (bodies_of g (DTaskBody w objects its s)) (flat_map (bodies_of g) (decl_list rest))
-        (copies (running g w.name) l.0 (all_kept (IsNamed g) (λ i. i.unit.0 == w.name.0) (tasks_beside g) all-are-named)) (each-kept rest a.1 l.1)
+        (copies (running g w.name) l.0 (all_kept (IsNamed g) (λ i. i.unit.0 == w.name.0) (tasks_beside g) (all-are-named p h))) (each-kept rest a.1 l.1)
       where
         vs : List PDecl
         vs = unit_variables (unit_for g w.name) its

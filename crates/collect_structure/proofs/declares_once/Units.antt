@@ -28,7 +28,7 @@ use Rattle.normal_laws.proofs.structure.numbers.Named.{Has}
 use Rattle.replay_model.specs.ReplayTree.{is_added_object}
 use Rattle.replay_structure.proofs.declares_once.Grown.{alone-from, IsGood, IsGrown, grown-then, IsSame, same-joined, same-then, declares-same, declared-new}
 use Rattle.replay_structure.proofs.declares_once.Plain.{IsPut, AreFresh, put-same}
-use Rattle.replay_structure.proofs.declares_once.Units.{task_words, body_words}
+use Rattle.replay_structure.proofs.declares_once.Units.{task_words}
 use Rattle.collect_model.specs.declared.AddedNames.{AddedNames}
 use Rattle.collect_model.specs.Names.{caller_text, answer_text, part_text, recorder_text, kind_text, subject_text, argument_text, index_text, owner_text, reply_text, gone_text, met_text, collect_names, added_in}
 use Rattle.collect_model.specs.Teller.{Teller, task_of, teller_at}
@@ -185,8 +185,3 @@ module _ (q : PProgram) (F more : List ℕ) (loose : AllByRecursion (IsLoose F) 
 pub more-words : (a : AddedNames) (ts : List PTask) → task_words (map (task_telling a) ts) ≡ task_words ts
 more-words a [] = refl
 more-words a (t ∷ ts) = ap (λ (l : List Word). t.name ∷ l) (more-words a ts)
-
-pub told-words : (u : Teller) (names : List (List ℕ)) (ds : List PDecl) → body_words (map (collect_decl u names) ds) ≡ body_words ds
-told-words u names [] = refl
-told-words u names (DTaskBody w objects its s ∷ ds) = ap (λ (l : List Word). w ∷ l) (told-words u names ds)
-told-words u names (d ∷ ds) = told-words u names ds

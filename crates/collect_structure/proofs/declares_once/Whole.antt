@@ -3,16 +3,14 @@ use Rattle.std.proofs.Common.{◌≡◌, ℕ, List, [], ◌∷◌, ◌++◌, map
 use Rattle.std.specs.List.{AllByRecursion, list_any}
 use Rattle.std.proofs.lemmas.List.{append_assoc, append-nil}
 use Rattle.ada_tree.specs.TypeTable.{TypeTable}
-use Rattle.ada_tree.specs.PlainDecl.{PTask, PDecl, DTask, DTaskBody, PDecls, decls_of}
+use Rattle.ada_tree.specs.PlainDecl.{PDecl, PDecls, decls_of}
 use Rattle.ada_tree.specs.PlainProgram.{PProgram}
 use Rattle.ada_static_rules.specs.Sites.{sites}
 use Rattle.ada_decl_rules.specs.declared.duplicates.namings_in_order.Naming.{Naming}
 use Rattle.syn_event.specs.Numbering.{Numbering}
-use Rattle.syn_event.specs.DeclaredTasks.{tasks_in}
 use Rattle.normal_model.specs.NormalTree.{main_unit, normal_tree}
 use Rattle.normal_laws.specs.structure.once.Once.{AllOnce}
 use Rattle.normal_laws.specs.structure.once.Apart.{IsFreeOf}
-use Rattle.normal_laws.proofs.structure.numbers.Listed.{IsOneTask, IsOneBody}
 use Rattle.replay_model.specs.ReplayTree.{last_task}
 use Rattle.replay_structure.specs.declares_once.Names.{word_named}
 use Rattle.replay_structure.proofs.texts.Listed.{normal-plain, normal-tasks, normal-bodies}
@@ -20,27 +18,16 @@ use Rattle.collect_model.specs.Names.{caller_text}
 use Rattle.collect_model.specs.Teller.{Teller, teller_in}
 use Rattle.collect_model.specs.Lines.{header_text}
 use Rattle.collect_model.specs.CollectStmts.{main_body}
-use Rattle.collect_model.specs.CollectTree.{behind_own, is_int_io, main_declared, task_telling, collect_decl, recorder_told, recorder_body_told, units_told, collect_tree}
+use Rattle.collect_model.specs.CollectTree.{behind_own, is_int_io, main_declared, collect_decl, recorder_told, recorder_body_told, units_told, collect_tree}
 use Rattle.collect_structure.specs.Names.{new_texts}
 use Rattle.collect_structure.specs.declares_once.Names.{LeavesNames}
 use Rattle.collect_structure.specs.declares_once.Laws.{CollectDeclaresOnce}
 use Rattle.collect_structure.proofs.declares_once.Ids.{ids, pick-free}
 use Rattle.collect_structure.proofs.declares_once.Statements.{main-same}
 use Rattle.collect_structure.proofs.declares_once.Text.{g, q, s, plain, ts, bs, A, F, X, all-tasks, all-bodies, B-good, M-good, loose, Parts, text_with, text-once}
-use Rattle.collect_structure.proofs.declares_once.Units.{loose_texts, IsLoose, recorder-body-fit, bodies-same, told-words}
-
--- ---- tasks and bodies of a collecting text
-
-told-tasks : (u : Teller) (names : List (List ℕ)) (ts : List PDecl) → AllByRecursion IsOneTask ts →
-    (tasks_in (map (collect_decl u names) ts) ≡ map (task_telling u.added) (tasks_in ts)) × AllByRecursion IsOneTask (map (collect_decl u names) ts)
-told-tasks u names [] h = (refl, tt)
-told-tasks u names (DTask t s ∷ ts) h = let r = told-tasks u names ts h.1 in (ap (λ (l : List PTask). task_telling u.added t ∷ l) r.0, (h.0, r.1))
-told-tasks u names (d ∷ ds) h = absurd h.0
-
-told-bodies : (u : Teller) (names : List (List ℕ)) (bs : List PDecl) → AllByRecursion IsOneBody bs → AllByRecursion IsOneBody (map (collect_decl u names) bs)
-told-bodies u names [] h = tt
-told-bodies u names (DTaskBody w objects its s ∷ bs) h = (tt, told-bodies u names bs h.1)
-told-bodies u names (d ∷ ds) h = absurd h.0
+use Rattle.collect_structure.proofs.declares_once.Units.{loose_texts, IsLoose, recorder-body-fit, bodies-same}
+use Rattle.collect_structure.proofs.texts.Telling.{IsTelling, told-ones, told-tasks, told-bodies, told-words}
+use Rattle.collect_structure.proofs.texts.Rooted.{collect-tells}
 
 -- ---- the whole
 
@@ -50,6 +37,9 @@ module _ (p : PProgram) (types : TypeTable) (numbers : Numbering) (once : AllOnc
 
   abbrev told : Teller
   told = teller_in (main_unit (g p types numbers))
+
+  abbrev tells : IsTelling told.added (collect_decl told form.names)
+  tells = collect-tells told form.names
 
   -- no further name is new
   nothing : (ms : List Naming) → AllByRecursion (λ (m : Naming). IsFreeOf [] (word_named m).name.0) ms
@@ -72,10 +62,10 @@ module _ (p : PProgram) (types : TypeTable) (numbers : Numbering) (once : AllOnc
     variables = tt;
     new = record { fresh = tt; distinct = tt; apart = λ here h. tt; clear = λ x h. refl };
     apart = tt;
-    tasks = (told-tasks told form.names (ts p types numbers) (all-tasks p types numbers)).1;
-    telling = (told-tasks told form.names (ts p types numbers) (all-tasks p types numbers)).0;
-    bodies = told-bodies told form.names (bs p types numbers) (all-bodies p types numbers);
-    words = told-words told form.names (bs p types numbers);
+    tasks = told-ones told.added (collect_decl told form.names) tells (ts p types numbers) (all-tasks p types numbers);
+    telling = told-tasks told.added (collect_decl told form.names) tells (ts p types numbers);
+    bodies = told-bodies told.added (collect_decl told form.names) tells (bs p types numbers) (all-bodies p types numbers);
+    words = told-words told.added (collect_decl told form.names) tells (bs p types numbers);
     same = bodies-same form (F p types numbers) [] fine told refl [] (bs p types numbers) (all-bodies p types numbers) (B-good p types numbers once leaves [] wide);
     body = (tt, tt);
     fine = λ held free. recorder-body-fit form (F p types numbers) [] fine (s p types numbers) (header_text form.names told.numbers) held free;

@@ -1,26 +1,23 @@
 -- The subtypes of the variables that the normal form of a legal program adds have kept names, and none is too deep.
-use Rattle.std.proofs.Common.{◌≡◌, ℕ, ◌==◌, Bool, true, false, List, [], ◌∷◌, map, find, Option, Some, None, IfSome, refl, sym, subst, arith}
+use Rattle.std.proofs.Common.{◌≡◌, ℕ, ◌==◌, Bool, true, List, [], ◌∷◌, map, find, Option, Some, None, IfSome, refl, sym, subst, arith}
 use Rattle.std.specs.List.{AllByRecursion}
 use Rattle.std.proofs.lemmas.List.Elements.{recursion_from_All}
-use Rattle.common_lemmas.proofs.Lists.{all_front, all_back, all_joined, all_second}
+use Rattle.common_lemmas.proofs.Lists.{all_joined}
 use Rattle.ada_tree.specs.declared.naming.NameId.{NameId}
 use Rattle.ada_tree.specs.declared.naming.Span.{Span}
 use Rattle.ada_tree.specs.declared.naming.Word.{Word}
 use Rattle.ada_tree.specs.TypeTable.{TypeTable}
 use Rattle.ada_tree.specs.PlainExpr.{PDrange, RGiven, RMarked}
 use Rattle.ada_tree.specs.PlainStmt.{PFormal}
-use Rattle.ada_tree.specs.PlainDecl.{PShape, OPlain, OArray, PTask, PDecl, DNumber, DObject, DEnumeration, DArray, DSubtype, DException, DIntIo, DPragma, DTask, DTaskBody, PDecls, no_decl, decl_then}
+use Rattle.ada_tree.specs.PlainDecl.{PTask}
 use Rattle.ada_tree.specs.PlainProgram.{PProgram}
 use Rattle.ada_static_rules.specs.Scope.{and_then}
-use Rattle.ada_tree.specs.Every.{Rules, EveryDrange, EverySubind, EveryFormal, EveryEntry, EveryShape, EveryDecl, EveryDecls}
-use Rattle.syn_event.specs.declared.numbering.Mode.TheVariants.{Original}
+use Rattle.ada_tree.specs.Every.{Rules, EveryDrange, EverySubind, EveryFormal, EveryEntry}
 use Rattle.syn_event.specs.declared.numbering.EntryInfo.{EntryInfo}
 use Rattle.syn_event.specs.Numbering.{entry_at}
-use Rattle.syn_event.specs.NamedTasks.{NamedTasks, type_named, with_type, task_names_of_type, object_task_names, single_task_name, task_names_in, task_names_of}
-use Rattle.syn_event.specs.CheckScope.{CheckScope, CheckSite}
+use Rattle.syn_event.specs.NamedTasks.{NamedTasks, task_names_of}
 use Rattle.syn_event.specs.CheckSites as check
 use Rattle.syn_event.specs.DeclaredTasks.{decl_list, tasks_of}
-use Rattle.task_laws.specs.legal.sites.Met.{IsCheckMet}
 use Rattle.task_laws.specs.legal.types.Typed.{IsFirstTask, IsTypedTask, HasTypedTasks}
 use Rattle.task_laws.proofs.legal.types.TaskTypes.{part-units}
 use Rattle.task_laws.proofs.legal.rewritten_types.Lookups.{find-all}
@@ -31,7 +28,6 @@ use Rattle.task_laws.specs.legal.alike_scopes.Old.{IsOldSubind}
 use Rattle.normal_laws.proofs.structure.placed.Added.{AreSubtypes}
 use Rattle.normal_laws.proofs.existence.variable_types.Numbers.{EntryRule, IsRuled, IsEntryOf, entry-of, formals-are, range-is}
 use Rattle.normal_laws.proofs.existence.variable_types.Subtypes.{RangeEvery}
-use Rattle.normal_laws.specs.structure.checked.Around.{own_rules}
 use Rattle.normal_laws.specs.runs.forms.Normalisable.{numbers_of, setting_for}
 use Rattle.normal_laws.specs.existence.Laws.{IsLegalOriginal}
 use Rattle.normal_laws.specs.legality.scopes.Plain.{plain_name}
@@ -40,63 +36,11 @@ use Rattle.normal_laws.proofs.legality.typed_declarations.Variables.{subtypes-go
 use Rattle.normal_laws.proofs.legality.typed_declarations.Joined.{program-rules}
 use Rattle.normal_laws.proofs.legality.checks.Facts as facts
 use Rattle.collect_structure.proofs.kept.Names.{IsKeeping}
-use Rattle.replay_structure.proofs.checkable.Kept.{rules_of, drange-kept}
+use Rattle.replay_structure.proofs.checkable.Kept.{rules_of}
 use Rattle.replay_structure.proofs.checkable.KeptDecls.{HasRest, tasks-rest}
 use Rattle.replay_structure.proofs.checkable.Tasks.{in-tasks}
 use Rattle.collect_structure.proofs.kept.Main.{first-kept}
-
--- ---- arrays of tasks
-
-module _ (own kept : ℕ → Bool) (old : (n : ℕ) → own n ≡ true → kept n ≡ true) (names : List (List ℕ)) (ids : List ℕ) where
-  abbrev r : Rules
-  r = own_rules own
-
-  abbrev r' : Rules
-  r' = rules_of kept
-
-  abbrev M : CheckSite → Type 0
-  M = IsCheckMet Original names
-
-  abbrev At : List CheckSite → Type 0
-  At xs = AllByRecursion M xs
-
-  abbrev AreRows : List NamedTasks → Type 0
-  AreRows xs = AllByRecursion (RangeEvery r') xs
-
-  rows-of-type : (o : Option PTask) (ws : List Word) (row : Option PDrange) → IfSome row (EveryDrange r' 2) → AreRows (task_names_of_type o ws row)
-  rows-of-type None ws row h = tt
-  rows-of-type (Some t) [] row h = tt
-  rows-of-type (Some t) (w ∷ ws) row h = (h, rows-of-type (Some t) ws row h)
-
-  rows-of-object : (c : CheckScope) (kinds : List PTask) (ws : List Word) (x : PShape) → EveryShape r x → At (check.shape_sites c x) → AreRows (object_task_names kinds ws x)
-  rows-of-object c kinds ws (OPlain x) h m = rows-of-type (type_named kinds x.mark.name) ws None tt
-  rows-of-object c kinds ws (OArray q x) h m =
-      rows-of-type (type_named kinds x.mark.name) ws (Some q) (drange-kept own kept old names c 2 q h.0 (all_front M (check.index_sites c q) (check.subind_sites c 2 x) m).1)
-
-  row-of-task : (b : Bool) (t : PTask) (s : Span) → AreRows (single_task_name b t s)
-  row-of-task true t s = tt
-  row-of-task false t s = (tt, tt)
-
-  -- the ranges of all arrays of tasks have kept names
-  pub rows-kept : (ds : PDecls) (kinds : List PTask) (c : CheckScope) → EveryDecls r ds → At (check.decls_sites c ids ds) → AreRows (task_names_in kinds ds)
-  rows-kept no_decl kinds c h m = tt
-  rows-kept (decl_then d rest) kinds c h m =
-      let later : List CheckSite = check.decls_sites (check.after_decl c d) ids rest in
-      one d h.0 (all_front M (check.decl_sites c ids d) later m) (λ kinds'. rows-kept rest kinds' (check.after_decl c d) h.1 (all_back M (check.decl_sites c ids d) later m))
-    where
-      one : (x : PDecl) → EveryDecl r x → At (check.decl_sites c ids x) → ((kinds' : List PTask) → AreRows (task_names_in kinds' rest)) → AreRows (task_names_in kinds (decl_then x rest))
-      one (DTask t s) e n next = all_joined (RangeEvery r') (single_task_name t.of_kind t s) (task_names_in (with_type kinds t.of_kind t) rest) (row-of-task t.of_kind t s) (next (with_type kinds t.of_kind t))
-      one (DObject ws k x i s) e n next =
-          all_joined (RangeEvery r') (object_task_names kinds ws x) (task_names_in kinds rest)
-          (rows-of-object c kinds ws x e.2 (all_second M (check.names_sites c ws) (check.shape_sites c x) (check.if_there (check.init_sites c) i) n)) (next kinds)
-      one (DNumber w x s) e n next = next kinds
-      one (DEnumeration w ws s) e n next = next kinds
-      one (DArray w q x s) e n next = next kinds
-      one (DSubtype w x s) e n next = next kinds
-      one (DException ws s) e n next = next kinds
-      one (DIntIo w s) e n next = next kinds
-      one (DPragma x s) e n next = next kinds
-      one (DTaskBody w objects its s) e n next = next kinds
+use Rattle.replay_structure.proofs.legal.Subtypes.{rows-kept}
 
 -- ---- a legal program
 

@@ -178,7 +178,7 @@ module _ (p : PProgram) (h : IsLegalOriginal p) where
   fixed = fixed_names (namings_of (sites q))
 
   -- what a replay text of no events asks
-  formed : IsForm F (old_name q) (inner_name p) (script_of (numbers_of p) []) before vars
+  pub formed : IsForm F (old_name q) (inner_name p) (script_of (numbers_of p) []) before vars
   formed = legal_normal_is_form p [] h (record { each = All-from_recursion (λ e. is_known (numbers_of p) e ≡ true) [] tt; few = omega arith })
 
   -- ---- main

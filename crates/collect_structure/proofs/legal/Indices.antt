@@ -2,7 +2,7 @@
 use Rattle.std.proofs.Common.{Bool, IfSome, List, None, Option, Some, [], ap, false, flat_map, if◌then◌else◌, is_none, is_some, not, refl, subst, sym, true, true≢false, ℕ, ℤ, ◌&&◌, ◌∙◌, ◌≡◌}
 use Rattle.std.specs.List.{AllByRecursion}
 use Rattle.common_lemmas.proofs.Lists.{all_joined}
-use Rattle.common_lemmas.proofs.Truth.{and_both}
+use Rattle.common_lemmas.proofs.Truth.{and_both, and_false}
 use Rattle.ada_tree.specs.Attributes.{attribute_of, is_bound}
 use Rattle.ada_tree.specs.PlainDecl.{DTaskBody, PDecl, PDecls, decl_then, no_decl}
 use Rattle.ada_tree.specs.PlainExpr.{EAttribute, EAttributeOf, EBinary, EIndex, EInteger, EName, EParen, EUnary, PExpr}
@@ -58,16 +58,12 @@ module _ (p : PProgram) where
   plain-fails : (n : ℕ) → plain_name p n ≡ false → inner_told p n ≡ false
   plain-fails n e = ap (λ b. (b && (not (is_predefined n) && is_none (mark_named (types_in p) record { 0 = n }))) && is_none (value_named (types_in p) record { 0 = n })) e
 
-  false-behind : (a : Bool) → (a && false) ≡ false
-  false-behind true = refl
-  false-behind false = refl
-
   -- a name with a static value
   valued-outer : (id : NameId) → is_some (value_named (types_in p) id) ≡ true → not (inner_told p id.0) ≡ true
   valued-outer id e = by_value (value_named (types_in p) id) e
     where
       by_value : (o : Option ℤ) → is_some o ≡ true → not (inner_name p id.0 && is_none o) ≡ true
-      by_value (Some z) f = ap not (false-behind (inner_name p id.0))
+      by_value (Some z) f = ap not (and_false (inner_name p id.0))
       by_value None f = absurd (true≢false (sym f))
 
   -- a name of a type or subtype
@@ -75,7 +71,7 @@ module _ (p : PProgram) where
   marked-outer id e = by_mark (mark_named (types_in p) id) e
     where
       by_mark : (o : Option Mark) → is_some o ≡ true → not ((plain_name p id.0 && (not (is_predefined id.0) && is_none o)) && is_none (value_named (types_in p) id)) ≡ true
-      by_mark (Some m) f = ap (λ b. not (b && is_none (value_named (types_in p) id))) (ap (λ b. plain_name p id.0 && b) (false-behind (not (is_predefined id.0))) ∙ false-behind (plain_name p id.0))
+      by_mark (Some m) f = ap (λ b. not (b && is_none (value_named (types_in p) id))) (ap (λ b. plain_name p id.0 && b) (and_false (not (is_predefined id.0))) ∙ and_false (plain_name p id.0))
       by_mark None f = absurd (true≢false (sym f))
 
   static-outer : (e : PExpr) → is_static (types_in p) e ≡ true → IsOuterExpr e

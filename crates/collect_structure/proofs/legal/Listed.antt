@@ -25,7 +25,7 @@ use Rattle.collect_structure.proofs.texts.Listed.{behind-front}
 use Rattle.collect_structure.specs.scopes.Text.{more, told, told_bodies, told_tasks}
 
 -- in front of variables
-behind-added : (names : List (List ℕ)) (ds xs : List PDecl) → AllByRecursion (λ x. is_added_object names x ≡ true) xs → behind_own names ds xs ≡ ds ++ xs
+pub behind-added : (names : List (List ℕ)) (ds xs : List PDecl) → AllByRecursion (λ x. is_added_object names x ≡ true) xs → behind_own names ds xs ≡ ds ++ xs
 behind-added names ds [] h = sym (append-nil ds)
 behind-added names ds (x ∷ xs) h = ap (λ b. if b then ds ++ x ∷ xs else x ∷ behind_own names ds xs) h.0
 

@@ -1,5 +1,5 @@
 -- Expressions of kept names have the same static values by the types of a normal form and by those of its collecting text.
-use Rattle.std.proofs.Common.{◌≡◌, ℕ, ◌+◌, Bool, true, false, if◌then◌else◌, ℤ, List, [], ◌∷◌, ◌++◌, map, Option, Some, None, Result, refl, sym, ap, ap₂, subst, ◌∙◌, eq-eqb, true≢false}
+use Rattle.std.proofs.Common.{◌≡◌, ℕ, ◌+◌, Bool, true, false, if◌then◌else◌, ℤ, List, [], ◌∷◌, ◌++◌, Option, Some, None, Result, refl, sym, ap, ap₂, subst, ◌∙◌, eq-eqb, true≢false}
 use Rattle.std.specs.List.{AllByRecursion}
 use Rattle.common_lemmas.proofs.Lists.{all_joined, all_weaker}
 use Rattle.ada_tree.specs.declared.naming.Span.{Span}
@@ -32,10 +32,10 @@ use Rattle.normal_laws.proofs.structure.types.Variables.{unit-all}
 use Rattle.normal_laws.proofs.structure.numbers.Listed.{IsOneTask, IsOneBody, vars, tasks, bodies, tasks-all, bodies-all}
 use Rattle.collect_model.specs.Names.{flags_text}
 use Rattle.collect_model.specs.Teller.{Teller}
-use Rattle.collect_model.specs.CollectTree.{collect_decl, recorder_told, recorder_body_told, behind_own, collect_tree}
+use Rattle.collect_model.specs.CollectTree.{collect_decl, recorder_body_told, collect_tree}
 use Rattle.collect_structure.specs.Names.{added_id, kept_name, kept_names}
-use Rattle.collect_structure.proofs.texts.Listed.{all-behind, all-main}
-use Rattle.collect_structure.proofs.texts.Rooted.{collect_is_rooted, collect-list, told, more, added_of}
+use Rattle.collect_structure.proofs.texts.Listed.{all-main}
+use Rattle.collect_structure.proofs.texts.Rooted.{collect_is_rooted, collect-list, told, more, added_of, collect-tells, all-told-behind}
 use Rattle.collect_structure.proofs.checked.Names.{kept-other}
 
 -- ---- declarations that keep the table of types
@@ -47,20 +47,20 @@ module _ (old : ℕ → Bool) where
   IsQuiet d = IsAdded old d
 
   -- what a variable is, is no constant
-  task-none : (b : Bool) (entries : List EntryPart) → constant_mark (task_object b entries) ≡ None
+  pub task-none : (b : Bool) (entries : List EntryPart) → constant_mark (task_object b entries) ≡ None
   task-none true entries = refl
   task-none false entries = refl
 
-  row-none : (b : Bool) (r : Option Range) (entries : List EntryPart) → constant_mark (task_array b r entries) ≡ None
+  pub row-none : (b : Bool) (r : Option Range) (entries : List EntryPart) → constant_mark (task_array b r entries) ≡ None
   row-none true (Some r) entries = refl
   row-none true None entries = refl
   row-none false r entries = refl
 
-  object-none : (m : Option ℕ) → constant_mark (object_meaning false m) ≡ None
+  pub object-none : (m : Option ℕ) → constant_mark (object_meaning false m) ≡ None
   object-none (Some m) = refl
   object-none None = refl
 
-  plain-none : (s : Scope) (m : Marking) (x : PSubind) → constant_mark (plain_object s false m x).thing ≡ None
+  pub plain-none : (s : Scope) (m : Marking) (x : PSubind) → constant_mark (plain_object s false m x).thing ≡ None
   plain-none s (TaskMark entries) x = task-none s.in_main entries
   plain-none s (ArrayMark m r part) x = refl
   plain-none s (ScalarMark m k) x = object-none (made_subind s x).mark
@@ -68,7 +68,7 @@ module _ (old : ℕ → Bool) where
   plain-none s UnknownMark x = object-none (made_subind s x).mark
   plain-none s UnclearMark x = object-none (made_subind s x).mark
 
-  array-none : (s : Scope) (m : Marking) (index : PDrange) (x : PSubind) → constant_mark (array_object s false m index x).thing ≡ None
+  pub array-none : (s : Scope) (m : Marking) (index : PDrange) (x : PSubind) → constant_mark (array_object s false m index x).thing ≡ None
   array-none s (TaskMark entries) index x = row-none s.in_main (drange_range s index) entries
   array-none s (ArrayMark m r part) index x = object-none (made_array None (made_subind s x).types (drange_range s index) (made_subind s x).mark).mark
   array-none s (ScalarMark m k) index x = object-none (made_array None (made_subind s x).types (drange_range s index) (made_subind s x).mark).mark
@@ -76,11 +76,11 @@ module _ (old : ℕ → Bool) where
   array-none s UnknownMark index x = object-none (made_array None (made_subind s x).types (drange_range s index) (made_subind s x).mark).mark
   array-none s UnclearMark index x = object-none (made_array None (made_subind s x).types (drange_range s index) (made_subind s x).mark).mark
 
-  shape-none : (s : Scope) (shape : PShape) → constant_mark (declared_object s false shape).thing ≡ None
+  pub shape-none : (s : Scope) (shape : PShape) → constant_mark (declared_object s false shape).thing ≡ None
   shape-none s (OPlain x) = plain-none s (marking s x.mark.name) x
   shape-none s (OArray index x) = array-none s (marking s x.mark.name) index x
 
-  keeps-variable : (s : Scope) (names : List Word) (shape : PShape) (init : Option PInit) → Keeps old s.types (after_object s names false shape init).types
+  pub keeps-variable : (s : Scope) (names : List Word) (shape : PShape) (init : Option PInit) → Keeps old s.types (after_object s names false shape init).types
   keeps-variable s names shape init =
       let d = declared_object s false shape in
       subst (Keeps old s.types) (sym (names-types d.thing names (with_types (with_constants s names init d) s)))
@@ -113,7 +113,7 @@ module _ (old : ℕ → Bool) where
   keeps-list [] s h = keeps-self s.types
   keeps-list (d ∷ ds) s h = keeps-on (keeps-quiet d s h.0) (keeps-list ds (after_decl s d) h.1)
 
-  -- tasks and bodies are quiet, rewritten or not
+  -- tasks and bodies are quiet
   task-quiet : (d : PDecl) → IsOneTask d → IsQuiet d
   task-quiet (DTask t s) h = tt
   task-quiet (DTaskBody w objects its s) h = absurd h
@@ -138,36 +138,10 @@ module _ (old : ℕ → Bool) where
   body-quiet (DIntIo w s) h = absurd h
   body-quiet (DPragma e s) h = absurd h
 
-  told-tasks-quiet : (x : Teller) (names : List (List ℕ)) (ds : List PDecl) → AllByRecursion IsOneTask ds → AllByRecursion IsQuiet (map (collect_decl x names) ds)
-  told-tasks-quiet x names [] h = tt
-  told-tasks-quiet x names (DTask t s ∷ ds) h = (tt, told-tasks-quiet x names ds h.1)
-  told-tasks-quiet x names (DTaskBody w objects its s ∷ ds) h = absurd h.0
-  told-tasks-quiet x names (DNumber w e s ∷ ds) h = absurd h.0
-  told-tasks-quiet x names (DObject ws c y i s ∷ ds) h = absurd h.0
-  told-tasks-quiet x names (DEnumeration w ws s ∷ ds) h = absurd h.0
-  told-tasks-quiet x names (DArray w r y s ∷ ds) h = absurd h.0
-  told-tasks-quiet x names (DSubtype w y s ∷ ds) h = absurd h.0
-  told-tasks-quiet x names (DException ws s ∷ ds) h = absurd h.0
-  told-tasks-quiet x names (DIntIo w s ∷ ds) h = absurd h.0
-  told-tasks-quiet x names (DPragma e s ∷ ds) h = absurd h.0
-
-  told-bodies-quiet : (x : Teller) (names : List (List ℕ)) (ds : List PDecl) → AllByRecursion IsOneBody ds → AllByRecursion IsQuiet (map (collect_decl x names) ds)
-  told-bodies-quiet x names [] h = tt
-  told-bodies-quiet x names (DTaskBody w objects its s ∷ ds) h = (tt, told-bodies-quiet x names ds h.1)
-  told-bodies-quiet x names (DTask t s ∷ ds) h = absurd h.0
-  told-bodies-quiet x names (DNumber w e s ∷ ds) h = absurd h.0
-  told-bodies-quiet x names (DObject ws c y i s ∷ ds) h = absurd h.0
-  told-bodies-quiet x names (DEnumeration w ws s ∷ ds) h = absurd h.0
-  told-bodies-quiet x names (DArray w r y s ∷ ds) h = absurd h.0
-  told-bodies-quiet x names (DSubtype w y s ∷ ds) h = absurd h.0
-  told-bodies-quiet x names (DException ws s ∷ ds) h = absurd h.0
-  told-bodies-quiet x names (DIntIo w s ∷ ds) h = absurd h.0
-  told-bodies-quiet x names (DPragma e s ∷ ds) h = absurd h.0
-
 -- ---- both tables
 
 -- the array type of flags has no kept name
-flags-new : (q : PProgram) → kept_name q (added_id q flags_text).0 ≡ false
+pub flags-new : (q : PProgram) → kept_name q (added_id q flags_text).0 ≡ false
 flags-new q = by_test (kept_name q (added_id q flags_text).0) refl
   where
     by_test : (b : Bool) → kept_name q (added_id q flags_text).0 ≡ b → b ≡ false
@@ -202,18 +176,8 @@ module _ (p : PProgram) (types : TypeTable) (numbers : Numbering) (ordered : IsO
   added-quiet : AllByRecursion (IsQuiet kept) (added_of p types numbers own)
   added-quiet =
       let x : Teller = told p types numbers own in
-      let first : List PDecl = behind_own n.names (more p types numbers own) variables in
-      let middle : List PDecl = map (collect_decl x n.names) (tasks p types numbers) in
-      let copies : List PDecl = map (collect_decl x n.names) (bodies p types numbers) in
-      all_joined (IsQuiet kept) (first ++ middle ++ (recorder_told x n ∷ []) ++ copies) (recorder_body_told x n ∷ [])
-      (all_joined (IsQuiet kept) (first ++ middle ++ (recorder_told x n ∷ [])) copies
-      (all_joined (IsQuiet kept) (first ++ middle) (recorder_told x n ∷ [])
-      (all_joined (IsQuiet kept) first middle
-      (all-behind (IsQuiet kept) n.names (more p types numbers own) variables (all-main (IsQuiet kept) x.added p.name.span _ _ (tt, (flags-new n, (tt, (tt, tt))))) vars-quiet)
-      (told-tasks-quiet kept x n.names (tasks p types numbers) (tasks-all (setting_of p types numbers))))
-      (tt, tt))
-      (told-bodies-quiet kept x n.names (bodies p types numbers) (bodies-all (setting_of p types numbers))))
-      (tt, tt)
+      all-told-behind p types numbers own x.added (collect_decl x n.names) (collect-tells x n.names) (more p types numbers own) (recorder_body_told x n) (IsQuiet kept)
+      (λ t s one. tt) (λ w objects its s. tt) (all-main (IsQuiet kept) x.added p.name.span _ _ (tt, (flags-new n, (tt, (tt, tt))))) vars-quiet tt tt
 
   pub keeps-text : Keeps kept root (types_in (collect_tree p types numbers))
   keeps-text =

@@ -38,26 +38,31 @@ use Rattle.collect_structure.proofs.placed.Named.{AreAdded, names', old, are-add
 use Rattle.collect_structure.proofs.placed.Made.{formal-placed, pieces}
 use Rattle.collect_structure.proofs.placed.Header.{name-content, header-content}
 use Rattle.collect_structure.proofs.placed.Recorded.{recorder-declared, unit-placed, main-placed, recorder-placed}
-use Rattle.collect_structure.proofs.texts.Listed.{all-behind, all-main}
+use Rattle.collect_structure.proofs.texts.Listed.{all-behind, all-main, one-bodies}
+use Rattle.normal_laws.proofs.structure.numbers.Listed.{IsOneBody}
+use Rattle.collect_structure.proofs.texts.Telling.{IsTelling, told_with, told-bodies}
+use Rattle.collect_structure.proofs.texts.Rooted.{collect-tells}
+use Rattle.collect_model.specs.Recording.{recorder_declared}
+use Rattle.ada_tree.specs.PlainProgram.{PProgram}
 
 -- ---- lists of declarations
 
 module _ (r : Rules) where
-  list-placed : (ds : List PDecl) → AllByRecursion (EveryDecl r) ds → EveryDecls r (decls_of ds)
+  pub list-placed : (ds : List PDecl) → AllByRecursion (EveryDecl r) ds → EveryDecls r (decls_of ds)
   list-placed [] h = tt
   list-placed (d ∷ ds) h = (h.0, list-placed ds h.1)
 
-  placed-list : (ds : PDecls) → EveryDecls r ds → AllByRecursion (EveryDecl r) (decl_list ds)
+  pub placed-list : (ds : PDecls) → EveryDecls r ds → AllByRecursion (EveryDecl r) (decl_list ds)
   placed-list no_decl h = tt
   placed-list (decl_then d ds) h = (h.0, placed-list ds h.1)
 
 -- ---- the order of declarations
 
 -- it is no body
-abbrev IsNoBody : PDecl → Type 0
+abbrev pub IsNoBody : PDecl → Type 0
 IsNoBody d = is_body d ≡ false
 
-bodies-front : (xs ys : List PDecl) → AllByRecursion IsNoBody xs → BodiesLast (decls_of ys) → BodiesLast (decls_of (xs ++ ys))
+pub bodies-front : (xs ys : List PDecl) → AllByRecursion IsNoBody xs → BodiesLast (decls_of ys) → BodiesLast (decls_of (xs ++ ys))
 bodies-front [] ys h i = i
 bodies-front (DTaskBody w objects its s ∷ xs) ys h i = cc
 bodies-front (DTask t s ∷ xs) ys h i = bodies-front xs ys h.1 i
@@ -70,12 +75,7 @@ bodies-front (DException ws s ∷ xs) ys h i = bodies-front xs ys h.1 i
 bodies-front (DIntIo w s ∷ xs) ys h i = bodies-front xs ys h.1 i
 bodies-front (DPragma e s ∷ xs) ys h i = bodies-front xs ys h.1 i
 
--- it is a body
-abbrev IsBody : PDecl → Type 0
-IsBody (DTaskBody w objects its s) = Prim.Unit {0}
-IsBody _ = ⊥
-
-later : (ds : List PDecl) → AllByRecursion IsBody ds → AreLater (decls_of ds)
+pub later : (ds : List PDecl) → AllByRecursion IsOneBody ds → AreLater (decls_of ds)
 later [] h = tt
 later (DTaskBody w objects its s ∷ ds) h = (tt, later ds h.1)
 later (DTask t s ∷ ds) h = absurd h.0
@@ -88,7 +88,7 @@ later (DException ws s ∷ ds) h = absurd h.0
 later (DIntIo w s ∷ ds) h = absurd h.0
 later (DPragma e s ∷ ds) h = absurd h.0
 
-bodies-last : (ds : List PDecl) → AllByRecursion IsBody ds → BodiesLast (decls_of ds)
+pub bodies-last : (ds : List PDecl) → AllByRecursion IsOneBody ds → BodiesLast (decls_of ds)
 bodies-last [] h = tt
 bodies-last (DTaskBody w objects its s ∷ ds) h = later ds h.1
 bodies-last (DTask t s ∷ ds) h = absurd h.0
@@ -102,11 +102,11 @@ bodies-last (DIntIo w s ∷ ds) h = absurd h.0
 bodies-last (DPragma e s ∷ ds) h = absurd h.0
 
 -- objects, in a list
-abbrev IsObject : PDecl → Type 0
+abbrev pub IsObject : PDecl → Type 0
 IsObject (DObject ws c x i s) = Prim.Unit {0}
 IsObject _ = ⊥
 
-objects-list : (ds : PDecls) → AreObjects ds → AllByRecursion IsObject (decl_list ds)
+pub objects-list : (ds : PDecls) → AreObjects ds → AllByRecursion IsObject (decl_list ds)
 objects-list no_decl h = tt
 objects-list (decl_then (DObject ws c x i s) l) h = (tt, objects-list l h)
 objects-list (decl_then (DNumber w e s) l) h = absurd h
@@ -119,7 +119,7 @@ objects-list (decl_then (DPragma e s) l) h = absurd h
 objects-list (decl_then (DTask t s) l) h = absurd h
 objects-list (decl_then (DTaskBody w objects its s) l) h = absurd h
 
-list-objects : (ds : List PDecl) → AllByRecursion IsObject ds → AreObjects (decls_of ds)
+pub list-objects : (ds : List PDecl) → AllByRecursion IsObject ds → AreObjects (decls_of ds)
 list-objects [] h = tt
 list-objects (DObject ws c x i s ∷ l) h = list-objects l h.1
 list-objects (DNumber w e s ∷ l) h = absurd h.0
@@ -134,7 +134,7 @@ list-objects (DTaskBody w objects its s ∷ l) h = absurd h.0
 
 -- ---- the first declarations
 
-filtered-bodies : (ds : List PDecl) → AllByRecursion IsNoBody (filter (λ d. not (is_task d || is_body d)) ds)
+pub filtered-bodies : (ds : List PDecl) → AllByRecursion IsNoBody (filter (λ d. not (is_task d || is_body d)) ds)
 filtered-bodies [] = tt
 filtered-bodies (DTaskBody w objects its s ∷ ds) = filtered-bodies ds
 filtered-bodies (DTask t s ∷ ds) = filtered-bodies ds
@@ -147,54 +147,34 @@ filtered-bodies (DException ws s ∷ ds) = (refl, filtered-bodies ds)
 filtered-bodies (DIntIo w s ∷ ds) = (refl, filtered-bodies ds)
 filtered-bodies (DPragma e s ∷ ds) = (refl, filtered-bodies ds)
 
-module _ (x : Teller) (names : List (List ℕ)) where
-  tasks-no-bodies : (ds : List PDecl) → AllByRecursion IsNoBody (map (collect_decl x names) (filter is_task ds))
-  tasks-no-bodies [] = tt
-  tasks-no-bodies (DTask t s ∷ ds) = (refl, tasks-no-bodies ds)
-  tasks-no-bodies (DTaskBody w objects its s ∷ ds) = tasks-no-bodies ds
-  tasks-no-bodies (DNumber w e s ∷ ds) = tasks-no-bodies ds
-  tasks-no-bodies (DObject ws c y o s ∷ ds) = tasks-no-bodies ds
-  tasks-no-bodies (DEnumeration w ws s ∷ ds) = tasks-no-bodies ds
-  tasks-no-bodies (DArray w q y s ∷ ds) = tasks-no-bodies ds
-  tasks-no-bodies (DSubtype w y s ∷ ds) = tasks-no-bodies ds
-  tasks-no-bodies (DException ws s ∷ ds) = tasks-no-bodies ds
-  tasks-no-bodies (DIntIo w s ∷ ds) = tasks-no-bodies ds
-  tasks-no-bodies (DPragma e s ∷ ds) = tasks-no-bodies ds
-
-  only-bodies : (ds : List PDecl) → AllByRecursion IsBody (map (collect_decl x names) (filter is_body ds))
-  only-bodies [] = tt
-  only-bodies (DTaskBody w objects its s ∷ ds) = (tt, only-bodies ds)
-  only-bodies (DTask t s ∷ ds) = only-bodies ds
-  only-bodies (DNumber w e s ∷ ds) = only-bodies ds
-  only-bodies (DObject ws c y o s ∷ ds) = only-bodies ds
-  only-bodies (DEnumeration w ws s ∷ ds) = only-bodies ds
-  only-bodies (DArray w q y s ∷ ds) = only-bodies ds
-  only-bodies (DSubtype w y s ∷ ds) = only-bodies ds
-  only-bodies (DException ws s ∷ ds) = only-bodies ds
-  only-bodies (DIntIo w s ∷ ds) = only-bodies ds
-  only-bodies (DPragma e s ∷ ds) = only-bodies ds
-
-main-no-bodies : (n : AddedNames) (s : Span) (instance : Bool) (last : ℕ) → AllByRecursion IsNoBody (main_declared n s instance last)
+pub main-no-bodies : (n : AddedNames) (s : Span) (instance : Bool) (last : ℕ) → AllByRecursion IsNoBody (main_declared n s instance last)
 main-no-bodies n s instance last = all-main IsNoBody n s instance last (refl, (refl, (refl, (refl, tt))))
 
--- bodies stand last
-pub order-kept : (x : Teller) (g : Setting) → BodiesLast (decls_of (collect_decls x g.program (decl_list g.program.decls)))
-order-kept x g =
-    let ds : List PDecl = decl_list g.program.decls in
-    let names : List (List ℕ) = g.program.names in
+-- what stands for tasks is no body
+tasks-no-bodies : (n : AddedNames) (f : PDecl → PDecl) → IsTelling n f → (ds : List PDecl) → AllByRecursion IsNoBody (map f (filter is_task ds))
+tasks-no-bodies n f tells [] = tt
+tasks-no-bodies n f tells (DTask t s ∷ ds) = (subst IsNoBody (sym (tells.task t s)) refl, tasks-no-bodies n f tells ds)
+tasks-no-bodies n f tells (d ∷ ds) = tasks-no-bodies n f tells ds
+
+-- bodies stand last in a text that is told
+pub told-order : (n : AddedNames) (f : PDecl → PDecl) → IsTelling n f → (q : PProgram) (more : List PDecl) (last : PDecl) → AllByRecursion IsNoBody more → IsOneBody last →
+    BodiesLast (decls_of (told_with q.names more f (recorder_declared n q.name.span) last (filter (λ d. not (is_task d || is_body d)) (decl_list q.decls))
+    (filter is_task (decl_list q.decls)) (filter is_body (decl_list q.decls))))
+told-order n f tells q more last none one =
+    let ds : List PDecl = decl_list q.decls in
     let objects : List PDecl = filter (λ d. not (is_task d || is_body d)) ds in
-    let first : List PDecl = objects_told x g.program objects in
-    let tasks : List PDecl = map (collect_decl x names) (filter is_task ds) in
-    let added : List PDecl = recorder_told x g.program ∷ [] in
-    let bodies : List PDecl = map (collect_decl x names) (filter is_body ds) in
-    let last : List PDecl = recorder_body_told x g.program ∷ [] in
+    let first : List PDecl = behind_own q.names more objects in
+    let tasks : List PDecl = map f (filter is_task ds) in
+    let added : List PDecl = recorder_declared n q.name.span ∷ [] in
+    let bodies : List PDecl = map f (filter is_body ds) in
     let front : AllByRecursion IsNoBody (first ++ tasks ++ added) =
     all_joined IsNoBody (first ++ tasks) added
-    (all_joined IsNoBody first tasks (all-behind IsNoBody names _ objects (main-no-bodies x.added g.program.name.span _ _) (filtered-bodies ds)) (tasks-no-bodies x names ds)) (refl, tt) in
-    subst (λ ys. BodiesLast (decls_of ys)) (sym (append_assoc (first ++ tasks ++ added) bodies last))
-    (bodies-front (first ++ tasks ++ added) (bodies ++ last) front (bodies-last (bodies ++ last) (all_joined IsBody bodies last (only-bodies x names ds) (tt, tt))))
+    (all_joined IsNoBody first tasks (all-behind IsNoBody q.names more objects none (filtered-bodies ds)) (tasks-no-bodies n f tells ds)) (refl, tt) in
+    subst (λ ys. BodiesLast (decls_of ys)) (sym (append_assoc (first ++ tasks ++ added) bodies (last ∷ [])))
+    (bodies-front (first ++ tasks ++ added) (bodies ++ last ∷ []) front
+    (bodies-last (bodies ++ last ∷ []) (all_joined IsOneBody bodies (last ∷ []) (told-bodies n f tells (filter is_body ds) (one-bodies ds)) (one, tt))))
 
-pred-less : (n : ℕ) → pred n ≤ n
+pub pred-less : (n : ℕ) → pred n ≤ n
 pred-less zero = omega arith
 pred-less (suc n) = omega arith
 
@@ -332,6 +312,11 @@ module _ (g : Setting) (h : IsCollectPlaceable g) where
       (bodies-placed ds plain all h.ready.decls h.decls))
       (recorder-placed g (names' g h.ready) n known s (header_text g.program.names g.numbers) header, tt))
 
+  its-order : BodiesLast (decls_of (collect_decls x g.program (decl_list g.program.decls)))
+  its-order =
+      told-order x.added (collect_decl x g.program.names) (collect-tells x g.program.names) g.program _ (recorder_body_told x g.program)
+      (main-no-bodies x.added g.program.name.span _ (last_task x.numbers)) tt
+
   -- The collecting text is well placed.
   pub collect_is_placed : IsWellPlaced (collect_of x g.program)
-  collect_is_placed = (whole.0, order-kept x g, decls-placed, main-body-placed)
+  collect_is_placed = (whole.0, its-order, decls-placed, main-body-placed)

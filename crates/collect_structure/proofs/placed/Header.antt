@@ -11,7 +11,7 @@ use Rattle.ada_tree.specs.Lexical.{is_upper_letter, is_digit, goes_on, is_word, 
 use Rattle.syn_event.specs.DeclaredTasks.{text_of}
 use Rattle.normal_laws.specs.structure.placed.Placeable.{IsName}
 
-abbrev IsPrintable : ℕ → Type 0
+abbrev pub IsPrintable : ℕ → Type 0
 IsPrintable b = (32 ≤ b) × (b ≤ 126)
 
 -- ---- digits

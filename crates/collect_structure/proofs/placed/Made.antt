@@ -36,7 +36,7 @@ use Rattle.collect_structure.proofs.placed.Named.{AreAdded}
 
 -- ---- numbers
 
-next-few : {A : Type 0} (p : A → Bool) (xs : List A) → unwrap_or (option_map (λ k. k + 1) (position p xs)) 0 ≤ length xs
+pub next-few : {A : Type 0} (p : A → Bool) (xs : List A) → unwrap_or (option_map (λ k. k + 1) (position p xs)) 0 ≤ length xs
 next-few {A = A} p xs = by_list xs
   where
     go : (ys : List A) (d : A) (o : Option ℕ) → position p ys ≡ o → unwrap_or (option_map (λ k. k + 1) o) 0 ≤ length ys
@@ -47,7 +47,7 @@ next-few {A = A} p xs = by_list xs
     by_list [] = omega arith
     by_list (y ∷ ys) = go (y ∷ ys) y (position p (y ∷ ys)) refl
 
-entry-few : (numbers : Numbering) (t : ℕ) (name : NameId) → entry_of numbers t name ≤ length numbers.entries
+pub entry-few : (numbers : Numbering) (t : ℕ) (name : NameId) → entry_of numbers t name ≤ length numbers.entries
 entry-few numbers t name = next-few (λ info. (info.owner == t) && (info.name.0 == name.0)) numbers.entries
 
 -- ---- the pieces
@@ -156,10 +156,6 @@ module _ (u : RewrittenUnit) (task : ℕ) (names names' : List (List ℕ)) (n : 
   others-last (handler_then (handler (w ∷ ws) l s) rest) t h = (tt, others-last rest (after_stmts (collect_rewriter x) l t) h.1)
 
   -- ---- all pieces
-
-  guard-moved : (c : C) (k q : ℕ) (o : Option PExpr) → q < 4 * k → IfSome o (b.condition c k) → IfSome o (EveryExpr r' q)
-  guard-moved c k q None le i = tt
-  guard-moved c k q (Some e) le i = expr-moved names names' old k k q e (omega (arith, le)) i.0.1 i.0.0
 
   pub pieces : Pieces x IsShallow b a (λ c d. Prim.Unit {0})
   pieces = record {

@@ -67,7 +67,7 @@ module _ (g : Setting) (old : ℕ → Bool) (new : AreNamesNew g old) where
   pub new-other : (id : NameId) → old id.0 ≡ true → (w : Word) → old w.name.0 ≡ false → IsOther id w
   new-other id o w n = differ old w.name.0 id.0 false true n o (λ e. true≢false (sym e))
 
-  own-apart : (id : NameId) → old id.0 ≡ false → (x : PDecl) → IsOwnObject old x → IsApart id x
+  pub own-apart : (id : NameId) → old id.0 ≡ false → (x : PDecl) → IsOwnObject old x → IsApart id x
   own-apart id n (DObject ws constant shape init s) o = all_weaker (λ (w : Word). old w.name.0 ≡ true) (IsOther id) ws (old-other id n) o.0
   own-apart id n (DNumber w e s) o = absurd o
   own-apart id n (DEnumeration w ws s) o = absurd o
@@ -240,7 +240,7 @@ module _ (g : Setting) (old : ℕ → Bool) (new : AreNamesNew g old) where
 
   -- ---- places
 
-  object-site : (x : PDecl) (c d : Scope) → c.in_main ≡ false → d.in_main ≡ false → IsGrown q old c d → IsOwnObject old x → HasOldInit old x →
+  pub object-site : (x : PDecl) (c d : Scope) → c.in_main ≡ false → d.in_main ≡ false → IsGrown q old c d → IsOwnObject old x → HasOldInit old x →
       AllMetBut (own_object_sites c x) → AllMetBut (own_object_sites d x)
   object-site (DObject ws constant shape init s) c d left right r o i m =
       let x : Declared = declared_object c constant shape in

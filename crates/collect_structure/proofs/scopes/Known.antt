@@ -168,7 +168,7 @@ module _ (p : PProgram) (legal : IsLegalOriginal p) where
       (all_front IsSingle before (vars ++ list.tasks p T N ++ list.bodies p T N) (subst (AllByRecursion IsSingle) (list.normal-list p T N) (normal-single p T N))) (first-no-type p.name)
 
   -- a name with a value is plain, so it is kept
-  value-plain : (id : NameId) (v : ℤ) → value_named (main.first p legal).types id ≡ Some v → plain_name p id.0 ≡ true
+  pub value-plain : (id : NameId) (v : ℤ) → value_named (main.first p legal).types id ≡ Some v → plain_name p id.0 ≡ true
   value-plain id v e =
       let stands : StandsWhole T (main.last p legal) = last-stands p (main.rules p legal) legal.placed legal.small in
       let there : value_named T id ≡ Some v = value-kept anybody (main.first p legal).types T (main.last-placed p legal).beside.keeps id refl ∙ e in

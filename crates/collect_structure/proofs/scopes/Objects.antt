@@ -17,8 +17,9 @@ use Rattle.task_laws.specs.legal.alike_scopes.Old.{IsOldExpr, IsOldShape, allows
 use Rattle.task_laws.specs.legal.alike_scopes.Laws.{IsMetBut}
 use Rattle.normal_laws.proofs.structure.typed.Declared.{SameInit, both_values, both_arrays, both_free, IsOldInit}
 use Rattle.normal_laws.proofs.structure.typed.Variables.{AllMetBut, words-met}
-use Rattle.collect_structure.proofs.typed.Typed.{same}
+use Rattle.replay_structure.proofs.typed.Typed.{same}
 use Rattle.normal_laws.proofs.structure.typed.Stays.{stays, expr-stays, static-stays, IsNoTaskThere, subind-stays, drange-stays}
+use Rattle.common_lemmas.proofs.Truth.{or_true}
 
 module _ (own : ℕ → Bool) (c d : Scope) (names : SameNames own c d) (main : c.in_main ≡ d.in_main) where
   -- ---- initial values
@@ -99,14 +100,10 @@ module _ (own : ℕ → Bool) (c d : Scope) (names : SameNames own c d) (main : 
   same-task : (constant : Bool) (bounds : Option PBounds) (init : Option PInit) → may_be_task d constant bounds init ≡ may_be_task c constant bounds init
   same-task constant bounds init = ap (λ b. b && not constant && is_none bounds && is_none init) (sym main)
 
-  no-task : (b : Bool) → (b || true) ≡ true
-  no-task true = refl
-  no-task false = refl
-
   object-there : (constant : Bool) (x : PSubind) (init : Option PInit) → IsPlainMark x.mark.name →
       IsNoTaskThere IsMetBut same own c d names (object_marks (may_be_task c constant x.bounds init) x.bounds) x.mark
   object-there constant x init (inr e) =
-      ap (λ b. not (allows_task (object_marks (may_be_task c constant x.bounds init) x.bounds)) || b) e ∙ no-task
+      ap (λ b. not (allows_task (object_marks (may_be_task c constant x.bounds init) x.bounds)) || b) e ∙ or_true
       (not (allows_task (object_marks (may_be_task c constant x.bounds init) x.bounds)))
   object-there constant x init (inl e) =
       subst (λ b. (not (allows_task (object_marks (b && not constant && is_none x.bounds && is_none init) x.bounds)) || is_no_task (marking c x.mark.name)) ≡ true) (sym e) (by_bounds x.bounds)
@@ -118,7 +115,7 @@ module _ (own : ℕ → Bool) (c d : Scope) (names : SameNames own c d) (main : 
   component-there : (constant : Bool) (x : PSubind) (init : Option PInit) → IsPlainMark x.mark.name →
       IsNoTaskThere IsMetBut same own c d names (component_marks (may_be_task c constant x.bounds init)) x.mark
   component-there constant x init (inr e) =
-      ap (λ b. not (allows_task (component_marks (may_be_task c constant x.bounds init))) || b) e ∙ no-task (not (allows_task (component_marks (may_be_task c constant x.bounds init))))
+      ap (λ b. not (allows_task (component_marks (may_be_task c constant x.bounds init))) || b) e ∙ or_true (not (allows_task (component_marks (may_be_task c constant x.bounds init))))
   component-there constant x init (inl e) =
       subst (λ b. (not (allows_task (component_marks (b && not constant && is_none x.bounds && is_none init))) || is_no_task (marking c x.mark.name)) ≡ true) (sym e) refl
 

@@ -16,7 +16,7 @@ use Rattle.collect_structure.proofs.kept.Names.{own-kept, kept-keeping}
 use Rattle.collect_structure.proofs.kept.Main.{main-kept}
 use Rattle.collect_structure.proofs.kept.Declared.{declarations-kept}
 
-every-unlisted : (rules : Rules) (ds : PDecls) → AllByRecursion (EveryDecl rules) (decl_list ds) → EveryDecls rules ds
+pub every-unlisted : (rules : Rules) (ds : PDecls) → AllByRecursion (EveryDecl rules) (decl_list ds) → EveryDecls rules ds
 every-unlisted rules no_decl h = tt
 every-unlisted rules (decl_then d ds) h = (h.0, every-unlisted rules ds h.1)
 

@@ -23,7 +23,7 @@ use Rattle.replay_structure.proofs.typed.Declared.{IsMetEntry, entries-met}
 use Rattle.collect_model.specs.declared.AddedNames.{AddedNames}
 use Rattle.collect_model.specs.Serving.{caller_formal}
 use Rattle.collect_model.specs.CollectTree.{entry_telling, task_telling}
-use Rattle.collect_structure.proofs.typed.Typed.{same}
+use Rattle.replay_structure.proofs.typed.Typed.{same}
 
 -- what is asked of each entry, from the places of all
 each-entry : (c : Scope) (es : List PEntry) (names : List ℕ) → AllMetBut (entries_sites c names es) → AllByRecursion (IsMetEntry c) es

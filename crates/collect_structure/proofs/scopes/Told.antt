@@ -19,7 +19,7 @@ use Rattle.collect_structure.specs.Names.{added_id}
 use Rattle.collect_structure.specs.typed.Told.{told_entry, IsToldScope}
 use Rattle.collect_structure.specs.scopes.Language.{SeesFlags}
 use Rattle.collect_structure.specs.scopes.Text as text
-use Rattle.collect_structure.specs.scopes.Text.{UnitIsMet, HasToldScopes}
+use Rattle.collect_structure.specs.scopes.Text.{HasToldScopes}
 use Rattle.collect_structure.specs.scopes.Grown.{IsGrown}
 use Rattle.collect_structure.specs.scopes.Form.{BodiesTold, IsTellable}
 use Rattle.collect_structure.proofs.declares_once.Ids.{texts-apart}

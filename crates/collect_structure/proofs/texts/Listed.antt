@@ -1,18 +1,15 @@
 -- The declarations of a collecting text, by those of the normal form.
-use Rattle.std.proofs.Common.{◌≡◌, ℕ, Bool, true, false, not, ◌||◌, if◌then◌else◌, List, [], ◌∷◌, ◌++◌, map, refl, ap, ap₂, ◌∙◌, append-nil}
+use Rattle.std.proofs.Common.{◌≡◌, ℕ, Bool, true, false, if◌then◌else◌, List, [], ◌∷◌, ◌++◌, refl, ap, ap₂}
 use Rattle.std.specs.List.{AllByRecursion, filter}
 use Rattle.common_lemmas.proofs.Lists.{all_joined}
-use Rattle.ada_tree.specs.PlainDecl.{PTask, PDecl, DNumber, DObject, DEnumeration, DArray, DSubtype, DException, DIntIo, DPragma, DTask, DTaskBody}
-use Rattle.ada_tree.specs.PlainProgram.{PProgram}
-use Rattle.syn_event.specs.DeclaredTasks.{decl_list, tasks_in, tasks_of}
-use Rattle.syn_event.proofs.DeclLists.{tasks_joined}
-use Rattle.normal_laws.proofs.structure.numbers.Listed.{IsPlain}
+use Rattle.ada_tree.specs.PlainDecl.{PDecl, DNumber, DObject, DEnumeration, DArray, DSubtype, DException, DIntIo, DPragma, DTask, DTaskBody}
+use Rattle.syn_event.specs.DeclaredTasks.{tasks_in}
+use Rattle.normal_laws.proofs.structure.numbers.Listed.{IsPlain, IsOneTask, IsOneBody}
 use Rattle.replay_model.specs.ReplayTree.{is_added_object, is_task, is_body}
-use Rattle.replay_structure.proofs.texts.Listed.{sorted-plain, plain-tasks}
 use Rattle.collect_model.specs.declared.AddedNames.{AddedNames}
-use Rattle.collect_model.specs.Teller.{Teller}
-use Rattle.collect_model.specs.CollectTree.{main_declared, behind_own, task_telling, collect_decl, objects_told, recorder_told, recorder_body_told, collect_decls}
+use Rattle.collect_model.specs.CollectTree.{main_declared, behind_own}
 use Rattle.ada_tree.specs.declared.naming.Span.{Span}
+use Rattle.normal_laws.specs.structure.numbers.Single.{IsSingle}
 
 -- ---- lists
 
@@ -35,22 +32,9 @@ pub all-main : (P : PDecl → Type 0) (n : AddedNames) (s : Span) (instance : Bo
 all-main P n s true last h = h.1
 all-main P n s false last h = h
 
--- ---- the tasks of a collecting text
+-- ---- tasks and bodies
 
-told-tasks : (x : Teller) (names : List (List ℕ)) (ds : List PDecl) → tasks_in (map (collect_decl x names) ds) ≡ map (task_telling x.added) (tasks_in ds)
-told-tasks x names [] = refl
-told-tasks x names (DTask t s ∷ ds) = ap (λ l. task_telling x.added t ∷ l) (told-tasks x names ds)
-told-tasks x names (DTaskBody w objects its s ∷ ds) = told-tasks x names ds
-told-tasks x names (DNumber w e s ∷ ds) = told-tasks x names ds
-told-tasks x names (DObject ws c y i s ∷ ds) = told-tasks x names ds
-told-tasks x names (DEnumeration w ws s ∷ ds) = told-tasks x names ds
-told-tasks x names (DArray w r y s ∷ ds) = told-tasks x names ds
-told-tasks x names (DSubtype w y s ∷ ds) = told-tasks x names ds
-told-tasks x names (DException ws s ∷ ds) = told-tasks x names ds
-told-tasks x names (DIntIo w s ∷ ds) = told-tasks x names ds
-told-tasks x names (DPragma e s ∷ ds) = told-tasks x names ds
-
-sorted-tasks : (ds : List PDecl) → tasks_in (filter is_task ds) ≡ tasks_in ds
+pub sorted-tasks : (ds : List PDecl) → tasks_in (filter is_task ds) ≡ tasks_in ds
 sorted-tasks [] = refl
 sorted-tasks (DTask t s ∷ ds) = ap (λ l. t ∷ l) (sorted-tasks ds)
 sorted-tasks (DTaskBody w objects its s ∷ ds) = sorted-tasks ds
@@ -63,7 +47,7 @@ sorted-tasks (DException ws s ∷ ds) = sorted-tasks ds
 sorted-tasks (DIntIo w s ∷ ds) = sorted-tasks ds
 sorted-tasks (DPragma e s ∷ ds) = sorted-tasks ds
 
-sorted-bodies : (ds : List PDecl) → tasks_in (filter is_body ds) ≡ []
+pub sorted-bodies : (ds : List PDecl) → tasks_in (filter is_body ds) ≡ []
 sorted-bodies [] = refl
 sorted-bodies (DTask t s ∷ ds) = sorted-bodies ds
 sorted-bodies (DTaskBody w objects its s ∷ ds) = sorted-bodies ds
@@ -76,32 +60,31 @@ sorted-bodies (DException ws s ∷ ds) = sorted-bodies ds
 sorted-bodies (DIntIo w s ∷ ds) = sorted-bodies ds
 sorted-bodies (DPragma e s ∷ ds) = sorted-bodies ds
 
--- the recorder's task
-abbrev pub recorder_tasks : Teller → PProgram → List PTask
-recorder_tasks x q = tasks_in (recorder_told x q ∷ [])
+pub one-tasks : (xs : List PDecl) → AllByRecursion IsSingle xs → AllByRecursion IsOneTask (filter is_task xs)
+one-tasks [] h = tt
+one-tasks (DTask t s ∷ xs) h = (h.0, one-tasks xs h.1)
+one-tasks (DTaskBody w objects its s ∷ xs) h = one-tasks xs h.1
+one-tasks (DNumber w e s ∷ xs) h = one-tasks xs h.1
+one-tasks (DObject ws c x i s ∷ xs) h = one-tasks xs h.1
+one-tasks (DEnumeration w ws s ∷ xs) h = one-tasks xs h.1
+one-tasks (DArray w r x s ∷ xs) h = one-tasks xs h.1
+one-tasks (DSubtype w x s ∷ xs) h = one-tasks xs h.1
+one-tasks (DException ws s ∷ xs) h = one-tasks xs h.1
+one-tasks (DIntIo w s ∷ xs) h = one-tasks xs h.1
+one-tasks (DPragma e s ∷ xs) h = one-tasks xs h.1
 
-main-plain : (n : AddedNames) (s : Span) (instance : Bool) (last : ℕ) → AllByRecursion IsPlain (main_declared n s instance last)
+pub one-bodies : (xs : List PDecl) → AllByRecursion IsOneBody (filter is_body xs)
+one-bodies [] = tt
+one-bodies (DTaskBody w objects its s ∷ xs) = (tt, one-bodies xs)
+one-bodies (DTask t s ∷ xs) = one-bodies xs
+one-bodies (DNumber w e s ∷ xs) = one-bodies xs
+one-bodies (DObject ws c x i s ∷ xs) = one-bodies xs
+one-bodies (DEnumeration w ws s ∷ xs) = one-bodies xs
+one-bodies (DArray w r x s ∷ xs) = one-bodies xs
+one-bodies (DSubtype w x s ∷ xs) = one-bodies xs
+one-bodies (DException ws s ∷ xs) = one-bodies xs
+one-bodies (DIntIo w s ∷ xs) = one-bodies xs
+one-bodies (DPragma e s ∷ xs) = one-bodies xs
+
+pub main-plain : (n : AddedNames) (s : Span) (instance : Bool) (last : ℕ) → AllByRecursion IsPlain (main_declared n s instance last)
 main-plain n s instance last = all-main IsPlain n s instance last (tt, (tt, (tt, (tt, tt))))
-
--- the objects of main are plain ones
-pub objects-plain : (x : Teller) (q : PProgram) (objects : List PDecl) → AllByRecursion IsPlain objects → AllByRecursion IsPlain (objects_told x q objects)
-objects-plain x q objects h = all-behind IsPlain q.names _ objects (main-plain x.added q.name.span _ _) h
-
--- The tasks of a collecting text: those of the normal form with further formals, and behind them the recorder.
-pub collect-tasks : (x : Teller) (q : PProgram) → tasks_in (collect_decls x q (decl_list q.decls)) ≡ map (task_telling x.added) (tasks_of q) ++ recorder_tasks x q
-collect-tasks x q =
-    let ds = decl_list q.decls in
-    let plain = filter (λ d. not (is_task d || is_body d)) ds in
-    let first = objects_told x q plain in
-    let tasks = map (collect_decl x q.names) (filter is_task ds) in
-    let recorder = recorder_told x q ∷ [] in
-    let bodies = map (collect_decl x q.names) (filter is_body ds) in
-    tasks_joined (first ++ tasks ++ recorder ++ bodies) (recorder_body_told x q ∷ [])
-    ∙ append-nil (tasks_in (first ++ tasks ++ recorder ++ bodies))
-    ∙ tasks_joined (first ++ tasks ++ recorder) bodies
-    ∙ ap (λ l. tasks_in (first ++ tasks ++ recorder) ++ l) (told-tasks x q.names (filter is_body ds) ∙ ap (map (task_telling x.added)) (sorted-bodies ds))
-    ∙ append-nil (tasks_in (first ++ tasks ++ recorder))
-    ∙ tasks_joined (first ++ tasks) recorder
-    ∙ ap (λ l. l ++ tasks_in recorder)
-    (tasks_joined first tasks
-    ∙ ap₂ (λ (a b : List PTask). a ++ b) (plain-tasks first (objects-plain x q plain (sorted-plain ds))) (told-tasks x q.names (filter is_task ds) ∙ ap (map (task_telling x.added)) (sorted-tasks ds)))

@@ -9,7 +9,7 @@ use Rattle.std.proofs.lemmas.Slice.Eq.{bytes_eq-Decides}
 use Rattle.common_lemmas.proofs.Lists.{all_joined, all_weaker}
 use Rattle.ada_tree.specs.declared.naming.NameId.{NameId}
 use Rattle.ada_tree.specs.TypeTable.{TypeTable}
-use Rattle.ada_tree.specs.PlainDecl.{PEntry, PTask, PDecl, DNumber, DObject, DEnumeration, DArray, DSubtype, DException, DIntIo, DPragma, DTask, DTaskBody}
+use Rattle.ada_tree.specs.PlainDecl.{PEntry, PTask, PDecl, decls_of}
 use Rattle.ada_tree.specs.PlainProgram.{PProgram}
 use Rattle.ada_tree.specs.Every.{EveryEntry}
 use Rattle.ada_static_rules.specs.Refusals.{types_in}
@@ -23,7 +23,7 @@ use Rattle.syn_event.specs.DeclaredTasks.{text_of, decl_list, tasks_in, tasks_of
 use Rattle.syn_event.proofs.DeclLists.{listed_back}
 use Rattle.task_model.specs.Setting.{Setting}
 use Rattle.normal_model.specs.NormalTree.{normal_tree}
-use Rattle.normal_model.proofs.VariablesLemmas.{Begins}
+use Rattle.normal_model.proofs.VariablesLemmas.{Begins, begins-trans}
 use Rattle.task_laws.specs.legal.rewritten_types.Agreement.{Agrees}
 use Rattle.task_laws.specs.legal.rewritten_values.Values.{old_names}
 use Rattle.normal_laws.specs.structure.types.Own.{own_name}
@@ -32,7 +32,7 @@ use Rattle.normal_laws.specs.structure.numbers.Laws.{NoneIsDed}
 use Rattle.normal_laws.specs.structure.numbers.Single.{IsSingle}
 use Rattle.normal_laws.proofs.structure.numbers.Named.{added-longer, own-within, own-not-added, begins-within, text-there, reserved-added}
 use Rattle.normal_laws.proofs.structure.numbers.TasksNumbered.{single_task, single_numbers, numbers-single, entries-joined}
-use Rattle.normal_laws.proofs.structure.numbers.Listed.{IsPlain, IsOneTask, IsOneBody, first-plain, firsts, vars, tasks, bodies, vars-plain, tasks-all, bodies-all}
+use Rattle.normal_laws.proofs.structure.numbers.Listed.{IsPlain, IsOneBody, first-plain, firsts, tasks, vars-plain}
 use Rattle.normal_laws.proofs.structure.numbers.Tasked.{under, normal-tasks-of}
 use Rattle.normal_laws.proofs.structure.numbers.TaskNames.{IsNamed, normal-begins, all-named, entries-own, family-kept}
 use Rattle.normal_laws.proofs.structure.numbers.Numbered.{plain-single}
@@ -40,40 +40,14 @@ use Rattle.normal_laws.proofs.structure.numbers.Origins.{IsWithin, origins-longe
 use Rattle.replay_model.specs.ReplayTree.{last_task, normal_setting}
 use Rattle.collect_model.specs.Names.{recorder_text, note_text, collect_names}
 use Rattle.collect_model.specs.Teller.{Teller}
-use Rattle.collect_model.specs.CollectTree.{entry_telling, task_telling, collect_decl, collect_decls, collect_tree}
-use Rattle.collect_model.specs.CollectNumbers.{recorder_info, note_info, collect_numbers}
-use Rattle.collect_structure.specs.Names.{added_id}
+use Rattle.collect_model.specs.CollectTree.{entry_telling, task_telling, collect_decl, collect_decls, collect_tree, recorder_body_told}
+use Rattle.collect_model.specs.CollectNumbers.{recorder_info, note_info, numbers_with}
 use Rattle.collect_structure.specs.texts.Laws.{CollectNumbered}
-use Rattle.collect_structure.proofs.texts.Listed.{all-behind, all-main, recorder_tasks, collect-tasks}
-use Rattle.collect_structure.proofs.texts.Rooted.{collect-begins, collect-has, text-begins, told, more, collect-list, collect_agrees}
-
--- ---- each task is a single one
-
-task-single : (x : Teller) (names : List (List ℕ)) (ds : List PDecl) → AllByRecursion IsOneTask ds → AllByRecursion IsSingle (map (collect_decl x names) ds)
-task-single x names [] h = tt
-task-single x names (DTask t s ∷ ds) h = (h.0, task-single x names ds h.1)
-task-single x names (DTaskBody w objects its s ∷ ds) h = absurd h.0
-task-single x names (DNumber w e s ∷ ds) h = absurd h.0
-task-single x names (DObject ws c y i s ∷ ds) h = absurd h.0
-task-single x names (DEnumeration w ws s ∷ ds) h = absurd h.0
-task-single x names (DArray w r y s ∷ ds) h = absurd h.0
-task-single x names (DSubtype w y s ∷ ds) h = absurd h.0
-task-single x names (DException ws s ∷ ds) h = absurd h.0
-task-single x names (DIntIo w s ∷ ds) h = absurd h.0
-task-single x names (DPragma e s ∷ ds) h = absurd h.0
-
-body-single : (x : Teller) (names : List (List ℕ)) (ds : List PDecl) → AllByRecursion IsOneBody ds → AllByRecursion IsSingle (map (collect_decl x names) ds)
-body-single x names [] h = tt
-body-single x names (DTaskBody w objects its s ∷ ds) h = (tt, body-single x names ds h.1)
-body-single x names (DTask t s ∷ ds) h = absurd h.0
-body-single x names (DNumber w e s ∷ ds) h = absurd h.0
-body-single x names (DObject ws c y i s ∷ ds) h = absurd h.0
-body-single x names (DEnumeration w ws s ∷ ds) h = absurd h.0
-body-single x names (DArray w r y s ∷ ds) h = absurd h.0
-body-single x names (DSubtype w y s ∷ ds) h = absurd h.0
-body-single x names (DException ws s ∷ ds) h = absurd h.0
-body-single x names (DIntIo w s ∷ ds) h = absurd h.0
-body-single x names (DPragma e s ∷ ds) h = absurd h.0
+use Rattle.collect_structure.proofs.texts.Listed.{all-main}
+use Rattle.collect_structure.proofs.texts.Rooted.{collect-begins, collect-has, told, more, collect-list, collect_agrees, collect-tells, collect-tasks, told_behind, all-told-behind}
+use Rattle.ada_tree.specs.PlainStmt.{PBody}
+use Rattle.collect_model.specs.declared.AddedNames.{AddedNames}
+use Rattle.collect_structure.proofs.texts.Telling.{IsTelling, recorder_tasks}
 
 -- ---- tasks
 
@@ -81,10 +55,11 @@ info-longer : (before names : List (List ℕ)) (id : NameId) → Begins before n
 info-longer before names id b within = ap (λ a. record { name = id; added = a; unit = id; member = None }) (added-longer before names id b within)
 
 -- the numbers of tasks whose names stand in front
-infos-longer : (x : Teller) (n : PProgram) (under : NumberedTask → PTask) (ys : List NumberedTask) → AllByRecursion (λ (y : NumberedTask). (under y).name.name.0 < length n.names) ys →
-    map (λ (t : PTask). task_info (collect_names n) t.name.name) (map (task_telling x.added) (map under ys)) ≡ map (λ (t : PTask). task_info n.names t.name.name) (map under ys)
-infos-longer x n under [] h = refl
-infos-longer x n under (y ∷ ys) h = λ i. info-longer n.names (collect_names n) (under y).name.name (collect-begins n) h.0 i ∷ infos-longer x n under ys h.1 i
+infos-longer : (n : AddedNames) (before names : List (List ℕ)) → Begins before names → (under : NumberedTask → PTask) (ys : List NumberedTask) →
+    AllByRecursion (λ (y : NumberedTask). (under y).name.name.0 < length before) ys →
+    map (λ (t : PTask). task_info names t.name.name) (map (task_telling n) (map under ys)) ≡ map (λ (t : PTask). task_info before t.name.name) (map under ys)
+infos-longer n before names b under [] h = refl
+infos-longer n before names b under (y ∷ ys) h = λ i. info-longer before names (under y).name.name b h.0 i ∷ infos-longer n before names b under ys h.1 i
 
 -- ---- what entries stand for
 
@@ -139,7 +114,26 @@ same-origins names all other (x ∷ xs) h =
 
 -- ---- the whole
 
-module _ (p : PProgram) (ordered : IsOrdered p) (main : own_name p p.name.name.0 ≡ true) (own : AreOwn p p.decls) (ded : NoneIsDed p) where
+-- a text of this program, by its names, its declarations and the body of main
+abbrev pub text_with : PProgram → List (List ℕ) → List PDecl → PBody → PProgram
+text_with p names ds its = record { names = names; text_io = true; name = p.name; decls = decls_of ds; body = its }
+
+-- the normal form of a program with the types and numbers that it has
+abbrev form_of : PProgram → PProgram
+form_of p = normal_tree p (types_in p) (all_numbers (types_in p) p)
+
+-- What is asked of a text: the names of the normal form stand in front, those of the recorder and its entry are there, its tasks are those of the normal form
+-- with further formals and the recorder, and its types agree with the program's.
+pub record IsToldText (p : PProgram) (n : AddedNames) (names : List (List ℕ)) (ds : List PDecl) (main : PBody) : Type 0 where
+  pub begins : Begins (form_of p).names names
+  pub recorder : is_added_name names n.recorder ≡ true
+  pub note : text_of names n.note ≡ note_text
+  pub single : AllByRecursion IsSingle ds
+  pub tasks : tasks_in ds ≡ map (task_telling n) (tasks_of (form_of p)) ++ recorder_tasks n (form_of p)
+  pub agrees : Agrees (own_name p) (types_in p) (types_in (text_with p names ds main))
+
+module _ (p : PProgram) (ordered : IsOrdered p) (main : own_name p p.name.name.0 ≡ true) (own : AreOwn p p.decls) (ded : NoneIsDed p)
+    (n : AddedNames) (names : List (List ℕ)) (ds : List PDecl) (its_body : PBody) (told : IsToldText p n names ds its_body) where
   abbrev T : TypeTable
   T = types_in p
 
@@ -151,18 +145,6 @@ module _ (p : PProgram) (ordered : IsOrdered p) (main : own_name p p.name.name.0
 
   abbrev form : Setting
   form = normal_setting p T numbers
-
-  abbrev names : List (List ℕ)
-  names = collect_names normal
-
-  abbrev text : PProgram
-  text = collect_tree p T numbers
-
-  abbrev U : TypeTable
-  U = types_in text
-
-  abbrev x : Teller
-  x = told p T numbers own
 
   abbrev last : ℕ
   last = last_task form.numbers
@@ -176,40 +158,29 @@ module _ (p : PProgram) (ordered : IsOrdered p) (main : own_name p p.name.name.0
   abbrev E : List EntryInfo
   E = entries_of_tasks p.names T 1 ys
 
-  all-single : AllByRecursion IsSingle (collect_decls x normal (decl_list normal.decls))
-  all-single =
-      subst (AllByRecursion IsSingle) (sym (collect-list p T numbers own))
-      (all_joined IsSingle (firsts p T numbers) _ (all_weaker IsPlain IsSingle _ plain-single (first-plain p.decls []))
-      (all_joined IsSingle _ _
-      (all_joined IsSingle _ _
-      (all_joined IsSingle _ _
-      (all_joined IsSingle _ _
-      (all-behind IsSingle normal.names (more p T numbers own) (vars p T numbers) (all-main IsSingle x.added p.name.span _ last (tt, (tt, (tt, (tt, tt))))) (all_weaker IsPlain IsSingle _ plain-single (vars-plain p T numbers)))
-      (task-single x normal.names (tasks p T numbers) (tasks-all (setting_of p T numbers))))
-      (refl, tt))
-      (body-single x normal.names (bodies p T numbers) (bodies-all (setting_of p T numbers))))
-      (tt, tt)))
+  abbrev text : PProgram
+  text = text_with p names ds its_body
 
-  -- the tasks of the text
-  its-tasks : tasks_of text ≡ map (task_telling x.added) (map its ys) ++ recorder_tasks x normal
-  its-tasks = ap tasks_in (listed_back (collect_decls x normal (decl_list normal.decls))) ∙ collect-tasks x normal ∙ ap (λ ts. map (task_telling x.added) ts ++ recorder_tasks x normal) (normal-tasks-of p T ordered)
+  abbrev U : TypeTable
+  U = types_in text
 
   -- how many they are
   last-is : last ≡ length ys
   last-is = length-map (tasks_of normal) (λ (t : PTask). task_info normal.names t.name.name) ∙ ap length (normal-tasks-of p T ordered) ∙ length-map ys its
 
-  recorder-added : is_added_name names (added_id normal recorder_text) ≡ true
-  recorder-added = reserved-added names recorder_text (collect-has normal recorder_text refl) refl
+  -- the tasks of the text
+  its-tasks : tasks_of text ≡ map (task_telling n) (map its ys) ++ recorder_tasks n normal
+  its-tasks = ap tasks_in (listed_back ds) ∙ told.tasks ∙ ap (λ ts. map (task_telling n) ts ++ recorder_tasks n normal) (normal-tasks-of p T ordered)
 
   -- the numbers of the tasks
-  infos-are : task_info names p.name.name ∷ map (λ (t : PTask). task_info names t.name.name) (map (task_telling x.added) (map its ys) ++ recorder_tasks x normal) ≡ form.numbers.tasks ++ recorder_info x.added ∷ []
+  infos-are : task_info names p.name.name ∷ map (λ (t : PTask). task_info names t.name.name) (map (task_telling n) (map its ys) ++ recorder_tasks n normal) ≡ form.numbers.tasks ++ recorder_info n ∷ []
   infos-are =
       ap₂ (λ (y : TaskInfo) l. y ∷ l)
-      (info-longer normal.names names p.name.name (collect-begins normal) (begins-within p.names normal.names p.name.name.0 (normal-begins p T numbers) (own-within p p.name.name.0 main)))
-      (map-append (λ (t : PTask). task_info names t.name.name) (map (task_telling x.added) (map its ys)) (recorder_tasks x normal)
-      ∙ ap₂ (λ (l : List TaskInfo) b. l ++ record { name = x.added.recorder; added = b; unit = x.added.recorder; member = None } ∷ [])
-      (infos-longer x normal its ys (all_weaker (λ (y : NumberedTask). IsNamed p (its y).name.name y.name) _ ys (λ y h. h.within) (all-named p own ded)) ∙ ap (map (λ (t : PTask). task_info normal.names t.name.name)) (sym (normal-tasks-of p T ordered)))
-      recorder-added)
+      (info-longer normal.names names p.name.name told.begins (begins-within p.names normal.names p.name.name.0 (normal-begins p T numbers) (own-within p p.name.name.0 main)))
+      (map-append (λ (t : PTask). task_info names t.name.name) (map (task_telling n) (map its ys)) (recorder_tasks n normal)
+      ∙ ap₂ (λ (l : List TaskInfo) b. l ++ record { name = n.recorder; added = b; unit = n.recorder; member = None } ∷ [])
+      (infos-longer n normal.names names told.begins its ys (all_weaker (λ (y : NumberedTask). IsNamed p (its y).name.name y.name) _ ys (λ y h. h.within) (all-named p own ded)) ∙ ap (map (λ (t : PTask). task_info normal.names t.name.name)) (sym (normal-tasks-of p T ordered)))
+      told.recorder)
 
   -- ---- entries
 
@@ -217,33 +188,30 @@ module _ (p : PProgram) (ordered : IsOrdered p) (main : own_name p p.name.name.0
   Own e = EveryEntry (old_names (own_name p)) e
 
   begins : Begins p.names names
-  begins = text-begins p T numbers
-
-  agrees : Agrees (own_name p) T U
-  agrees = collect_agrees p T numbers ordered own
+  begins = begins-trans (normal-begins p T numbers) told.begins
 
   -- an entry of a task is the same in the collecting text
   entries-kept : (t : ℕ) (y : NumberedTask) (z : PTask) → is_added_name names z.name.name ≡ is_added_name p.names y.name → (es : List PEntry) → AllByRecursion Own es →
-      map (entry_of_task names U t (single_task z)) (map (entry_telling x.added) es) ≡ map (entry_of_task p.names T t y) es
+      map (entry_of_task names U t (single_task z)) (map (entry_telling n) es) ≡ map (entry_of_task p.names T t y) es
   entries-kept t y z same [] h = refl
   entries-kept t y z same (e ∷ es) h = λ i.
       record {
         name = e.name.name;
         owner = t;
         family = is_some e.family;
-        first = first_of (family-kept (own_name p) T U agrees e.family h.0.2 i);
-        last = last_index (family-kept (own_name p) T U agrees e.family h.0.2 i);
+        first = first_of (family-kept (own_name p) T U told.agrees e.family h.0.2 i);
+        last = last_index (family-kept (own_name p) T U told.agrees e.family h.0.2 i);
         added = same i || added-longer p.names names e.name.name begins (own-within p e.name.name.0 h.0.1) i;
         stands_for = None;
       }
       ∷ entries-kept t y z same es h.1 i
 
   tasks-kept : (zs : List NumberedTask) (t : ℕ) → AllByRecursion (λ (y : NumberedTask). IsNamed p (its y).name.name y.name) zs → AllByRecursion (λ (y : NumberedTask). AllByRecursion Own y.unit.entries) zs →
-      entries_of_tasks names U t (map single_task (map (task_telling x.added) (map its zs))) ≡ entries_of_tasks p.names T t zs
+      entries_of_tasks names U t (map single_task (map (task_telling n) (map its zs))) ≡ entries_of_tasks p.names T t zs
   tasks-kept [] t named h = refl
   tasks-kept (y ∷ zs) t named h =
       ap₂ (λ (a b : List EntryInfo). a ++ b)
-      (entries-kept t y (task_telling x.added (its y)) (added-longer normal.names names (its y).name.name (collect-begins normal) named.0.within ∙ named.0.added) y.unit.entries h.0)
+      (entries-kept t y (task_telling n (its y)) (added-longer normal.names names (its y).name.name told.begins named.0.within ∙ named.0.added) y.unit.entries h.0)
       (tasks-kept zs (t + 1) named.1 h.1)
 
   -- their names are those of the program
@@ -265,23 +233,23 @@ module _ (p : PProgram) (ordered : IsOrdered p) (main : own_name p p.name.name.0
 
   -- the recorder's entry
   abbrev note : EntryInfo
-  note = record { name = x.added.note; owner = last + 1; family = false; first = pos 0; last = pos 0; added = true; stands_for = None }
+  note = record { name = n.note; owner = last + 1; family = false; first = pos 0; last = pos 0; added = true; stands_for = None }
 
   abbrev first-entries : List NumberedTask
-  first-entries = map single_task (map (task_telling x.added) (map its ys))
+  first-entries = map single_task (map (task_telling n) (map its ys))
 
   first-length : length first-entries ≡ last
-  first-length = length-map (map (task_telling x.added) (map its ys)) single_task ∙ length-map (map its ys) (task_telling x.added) ∙ length-map ys its ∙ sym last-is
+  first-length = length-map (map (task_telling n) (map its ys)) single_task ∙ length-map (map its ys) (task_telling n) ∙ length-map ys its ∙ sym last-is
 
-  note-there : entries_of_tasks names U (1 + length first-entries) (map single_task (recorder_tasks x normal)) ≡ note ∷ []
+  note-there : entries_of_tasks names U (1 + length first-entries) (map single_task (recorder_tasks n normal)) ≡ note ∷ []
   note-there = λ i.
       record {
-        name = x.added.note;
+        name = n.note;
         owner = owner-is (length first-entries) first-length i;
         family = false;
         first = pos 0;
         last = pos 0;
-        added = or_left (is_added_name names x.added.recorder) (is_added_name names x.added.note) recorder-added i;
+        added = or_left (is_added_name names n.recorder) (is_added_name names n.note) told.recorder i;
         stands_for = None;
       }
       ∷ []
@@ -289,30 +257,31 @@ module _ (p : PProgram) (ordered : IsOrdered p) (main : own_name p p.name.name.0
       owner-is : (n : ℕ) → n ≡ last → 1 + n ≡ last + 1
       owner-is n e = omega (arith, e)
 
-  entries-listed : entries_of_tasks names U 1 (map single_task (map (task_telling x.added) (map its ys) ++ recorder_tasks x normal)) ≡ E ++ note ∷ []
+  entries-listed : entries_of_tasks names U 1 (map single_task (map (task_telling n) (map its ys) ++ recorder_tasks n normal)) ≡ E ++ note ∷ []
   entries-listed =
-      ap (entries_of_tasks names U 1) (map-append single_task (map (task_telling x.added) (map its ys)) (recorder_tasks x normal))
-      ∙ entries-joined names U 1 first-entries (map single_task (recorder_tasks x normal))
+      ap (entries_of_tasks names U 1) (map-append single_task (map (task_telling n) (map its ys)) (recorder_tasks n normal))
+      ∙ entries-joined names U 1 first-entries (map single_task (recorder_tasks n normal))
       ∙ ap₂ (λ (a b : List EntryInfo). a ++ b) (tasks-kept ys 1 (all-named p own ded) (entries-own p own T)) note-there
 
   -- the recorder's entry speaks of none
   note-speaks : (y : EntryInfo) → speaks_of names note y ≡ false
-  note-speaks y = by_both ((y.owner == note.owner) && not y.added) (ap (λ t. pointwise nat_eq t (codes "DED_S_" ++ text_of names y.name)) (text-there names note_text (collect-has normal note_text refl)))
+  note-speaks y = by_both ((y.owner == note.owner) && not y.added) (ap (λ t. pointwise nat_eq t (codes "DED_S_" ++ text_of names y.name)) told.note)
     where
       by_both : (a : Bool) {b : Bool} → b ≡ false → (a && b) ≡ false
       by_both true e = e
       by_both false e = refl
 
-  entries-are : with_origins names (E ++ note ∷ []) ≡ form.numbers.entries ++ note_info x.added last ∷ []
+  entries-are : with_origins names (E ++ note ∷ []) ≡ form.numbers.entries ++ note_info n last ∷ []
   entries-are =
       map-append (with_origin names (E ++ note ∷ [])) E (note ∷ [])
       ∙ ap₂ (λ (a b : List EntryInfo). a ++ b)
       (same-origins names (E ++ note ∷ []) E E (tasks-unadded ys 1 (entries-own p own T)) ∙ origins-longer p.names names begins E (tasks-within ys 1 (entries-own p own T)))
       (ap (λ (y : EntryInfo). y ∷ []) (origin-none names (E ++ note ∷ []) note note-speaks))
 
-  numbered : all_numbers U text ≡ collect_numbers p T numbers
-  numbered =
-      numbers-single U text (subst (AllByRecursion IsSingle) (sym (listed_back (collect_decls x normal (decl_list normal.decls)))) all-single)
+  -- The text has the numbers of the normal form, the recorder and its entry.
+  pub told-numbered : all_numbers U text ≡ numbers_with n form.numbers
+  told-numbered =
+      numbers-single U text (subst (AllByRecursion IsSingle) (sym (listed_back ds)) told.single)
       ∙ ap (single_numbers names U p.name.name) its-tasks
       ∙ (λ i. record {
         main = p.name.name;
@@ -320,5 +289,30 @@ module _ (p : PProgram) (ordered : IsOrdered p) (main : own_name p p.name.name.0
         entries = (ap (with_origins names) entries-listed ∙ entries-are) i;
       })
 
+-- each task of a text is a single one
+pub told-single : (p : PProgram) (types : TypeTable) (numbers : Numbering) (own : AreOwn p p.decls) (n : AddedNames) (f : PDecl → PDecl) (tells : IsTelling n f)
+    (more : List PDecl) (last : PDecl) → AllByRecursion IsSingle more → IsOneBody last →
+    AllByRecursion IsSingle (firsts p types numbers ++ told_behind p types numbers own n f tells more last)
+told-single p types numbers own n f tells more last m one =
+    all_joined IsSingle (firsts p types numbers) _ (all_weaker IsPlain IsSingle _ plain-single (first-plain p.decls []))
+    (all-told-behind p types numbers own n f tells more last IsSingle (λ t s single. single) (λ w objects its s. tt) m
+    (all_weaker IsPlain IsSingle _ plain-single (vars-plain p types numbers)) refl one)
+
 pub collect_numbered : CollectNumbered
-collect_numbered p ordered main own ded = numbered p ordered main own ded
+collect_numbered p ordered main own ded =
+    let T : TypeTable = types_in p in
+    let numbers : Numbering = all_numbers T p in
+    let q : PProgram = normal_tree p T numbers in
+    let names : List (List ℕ) = collect_names q in
+    let x : Teller = told p T numbers own in
+    told-numbered p ordered main own ded x.added names (collect_decls x q (decl_list q.decls)) (collect_tree p T numbers).body (record {
+      begins = collect-begins q;
+      recorder = reserved-added names recorder_text (collect-has q recorder_text refl) refl;
+      note = text-there names note_text (collect-has q note_text refl);
+      single =
+          subst (AllByRecursion IsSingle) (sym (collect-list p T numbers own))
+          (told-single p T numbers own x.added (collect_decl x q.names) (collect-tells x q.names) (more p T numbers own) (recorder_body_told x q)
+          (all-main IsSingle x.added p.name.span _ _ (tt, (tt, (tt, (tt, tt))))) tt);
+      tasks = collect-tasks x q;
+      agrees = collect_agrees p T numbers ordered own;
+    })

@@ -2,42 +2,47 @@
 use Rattle.std.proofs.Common.{◌≡◌, ℕ, ◌==◌, Bool, true, false, List, [], ◌∷◌, ◌++◌, map, refl, sym, ap, ◌∙◌, subst, append_assoc, arith}
 use Rattle.std.specs.List.{AllByRecursion, list_any}
 use Rattle.std.proofs.lemmas.Bool.{eqb-true}
-use Rattle.common_lemmas.proofs.Lists.{all_joined, all_weaker}
 use Rattle.ada_tree.specs.TypeTable.{TypeTable}
-use Rattle.ada_tree.specs.PlainDecl.{PDecl, DNumber, DObject, DEnumeration, DArray, DSubtype, DException, DIntIo, DPragma, DTask, DTaskBody, PDecls, no_decl, decl_then, decls_of}
+use Rattle.ada_tree.specs.PlainDecl.{PDecl, DNumber, DObject, DEnumeration, DArray, DSubtype, DException, DIntIo, DPragma, DTask, DTaskBody, PDecls, no_decl, decl_then, decls_of, PTask}
 use Rattle.ada_tree.specs.PlainProgram.{PProgram}
 use Rattle.ada_tree.specs.Every.{EveryDecl, EveryDecls}
 use Rattle.ada_static_rules.specs.Scope.{Scope}
 use Rattle.ada_static_rules.specs.Declaring.{first_scope, after_decls}
 use Rattle.ada_static_rules.specs.Refusals.{types_in}
 use Rattle.syn_event.specs.Numbering.{Numbering}
-use Rattle.syn_event.specs.DeclaredTasks.{text_of, decl_list}
+use Rattle.syn_event.specs.DeclaredTasks.{text_of, decl_list, tasks_in, tasks_of}
 use Rattle.task_model.specs.Setting.{Setting}
 use Rattle.normal_model.specs.NormalTree.{first_decls, main_unit, normal_tree}
 use Rattle.normal_model.proofs.VariablesLemmas.{Begins, begins-trans}
 use Rattle.normal_model.proofs.WalkLemmas.{listed-front}
 use Rattle.task_laws.specs.legal.rewritten_types.Agreement.{Rooted}
-use Rattle.task_laws.specs.legal.rewritten_types.Rewriting.{IsAdded, AreAdded}
+use Rattle.task_laws.specs.legal.rewritten_types.Rewriting.{IsAdded}
 use Rattle.task_laws.specs.legal.rewritten_types.Laws.{behind}
 use Rattle.task_laws.proofs.legal.rewritten_types.Rooting.{rewritten_is_rooted, rooted_agrees}
 use Rattle.task_laws.specs.legal.rewritten_values.Values.{old_names}
 use Rattle.normal_laws.specs.structure.types.Own.{own_name}
-use Rattle.normal_laws.specs.structure.types.Laws.{setting_of, AreOwn}
+use Rattle.normal_laws.specs.structure.types.Laws.{setting_of, AreOwn, IsOrdered}
 use Rattle.normal_laws.proofs.structure.types.Names.{fold-begins, added_names_are_new}
-use Rattle.normal_laws.proofs.structure.types.Variables.{IsTaskOrBody, are-added, task-added, tasks-only, bodies-only, unit-new}
+use Rattle.normal_laws.proofs.structure.types.Variables.{are-added, unit-new}
 use Rattle.normal_laws.proofs.structure.types.Fronts.{first_decls_are_front}
 use Rattle.normal_laws.proofs.structure.types.Normal.{front-after, first-every}
 use Rattle.normal_laws.proofs.structure.numbers.Named.{text-there, Has, has-folded, added-longer, IsReserved, reserved-new, own-within, own-not-added}
-use Rattle.normal_laws.proofs.structure.numbers.Listed.{firsts, vars, tasks, bodies}
+use Rattle.normal_laws.proofs.structure.numbers.Listed.{firsts, vars, tasks, bodies, IsPlain, IsOneBody, tasks-all, bodies-all}
 use Rattle.normal_laws.proofs.structure.numbers.TaskNames.{normal-begins}
 use Rattle.replay_model.specs.ReplayTree.{is_added_object, last_task, normal_setting}
 use Rattle.replay_structure.proofs.texts.Listed.{normal-plain, normal-tasks, normal-bodies}
 use Rattle.collect_model.specs.Names.{flags_text, answer_text, part_text, added_texts, with_added, collect_names}
 use Rattle.collect_model.specs.Teller.{Teller, teller_in}
-use Rattle.collect_model.specs.CollectTree.{is_int_io, main_declared, behind_own, collect_decl, units_told, recorder_told, recorder_body_told, collect_decls}
+use Rattle.collect_model.specs.CollectTree.{is_int_io, main_declared, behind_own, collect_decl, units_told, recorder_body_told, collect_decls, task_telling, objects_told}
 use Rattle.collect_structure.specs.Names.{added_id}
 use Rattle.collect_structure.specs.texts.Laws.{CollectIsRooted, CollectAgrees}
-use Rattle.collect_structure.proofs.texts.Listed.{all-behind, behind-front, all-main}
+use Rattle.collect_structure.proofs.texts.Listed.{all-behind, behind-front, all-main, main-plain}
+use Rattle.ada_tree.specs.declared.naming.Span.{Span}
+use Rattle.ada_tree.specs.declared.naming.Word.{Word}
+use Rattle.ada_tree.specs.PlainStmt.{PBody}
+use Rattle.collect_model.specs.declared.AddedNames.{AddedNames}
+use Rattle.collect_model.specs.Recording.{recorder_declared}
+use Rattle.collect_structure.proofs.texts.Telling.{IsTelling, told_with, recorder_tasks, all-told, text-tasks}
 
 -- ---- names
 
@@ -72,25 +77,26 @@ module _ (p : PProgram) (types : TypeTable) (numbers : Numbering) where
 
 -- ---- declarations
 
--- a task or a body is one in the collecting text
-told-unit : (x : Teller) (names : List (List ℕ)) (d : PDecl) → IsTaskOrBody d → IsTaskOrBody (collect_decl x names d)
-told-unit x names (DTask t s) h = tt
-told-unit x names (DTaskBody w objects its s) h = tt
-told-unit x names (DNumber w e s) h = absurd h
-told-unit x names (DObject ws c y i s) h = absurd h
-told-unit x names (DEnumeration w ws s) h = absurd h
-told-unit x names (DArray w r y s) h = absurd h
-told-unit x names (DSubtype w y s) h = absurd h
-told-unit x names (DException ws s) h = absurd h
-told-unit x names (DIntIo w s) h = absurd h
-told-unit x names (DPragma e s) h = absurd h
+-- a collecting text is told
+pub collect-tells : (x : Teller) (names : List (List ℕ)) → IsTelling x.added (collect_decl x names)
+collect-tells x names = record { task = λ t s. refl; body = λ w objects its s. refl; other = kept }
+  where
+    kept : (d : PDecl) → IsPlain d → collect_decl x names d ≡ d
+    kept (DTask t s) h = absurd h
+    kept (DTaskBody w objects its s) h = absurd h
+    kept d h = refl
 
-told-units : (x : Teller) (names : List (List ℕ)) (ds : List PDecl) → AllByRecursion IsTaskOrBody ds → AllByRecursion IsTaskOrBody (map (collect_decl x names) ds)
-told-units x names [] h = tt
-told-units x names (d ∷ ds) h = (told-unit x names d h.0, told-units x names ds h.1)
+-- the objects of main are plain ones
+pub objects-plain : (x : Teller) (q : PProgram) (objects : List PDecl) → AllByRecursion IsPlain objects → AllByRecursion IsPlain (objects_told x q objects)
+objects-plain x q objects h = all-behind IsPlain q.names _ objects (main-plain x.added q.name.span _ _) h
+
+-- The tasks of a collecting text: those of the normal form with further formals, and behind them the recorder.
+pub collect-tasks : (x : Teller) (q : PProgram) → tasks_in (collect_decls x q (decl_list q.decls)) ≡ map (task_telling x.added) (tasks_of q) ++ recorder_tasks x.added q
+collect-tasks x q =
+    text-tasks x.added (collect_decl x q.names) (collect-tells x q.names) q _ (recorder_body_told x q) (main-plain x.added q.name.span _ (last_task x.numbers)) tt
 
 -- an object that has an own name first is no variable of the normal form
-own-object : (p : PProgram) (names : List (List ℕ)) (d : PDecl) → Begins p.names names → EveryDecl (old_names (own_name p)) d → is_added_object names d ≡ false
+pub own-object : (p : PProgram) (names : List (List ℕ)) (d : PDecl) → Begins p.names names → EveryDecl (old_names (own_name p)) d → is_added_object names d ≡ false
 own-object p names (DObject [] c x i s) b h = refl
 own-object p names (DObject (w ∷ ws) c x i s) b h =
     let own : own_name p w.name.0 ≡ true = h.1.1 0 w (omega arith) in
@@ -105,15 +111,60 @@ own-object p names (DException ws s) b h = refl
 own-object p names (DIntIo w s) b h = refl
 own-object p names (DPragma e s) b h = refl
 
-own-objects : (p : PProgram) (names : List (List ℕ)) (ds : PDecls) → Begins p.names names → EveryDecls (old_names (own_name p)) ds → AllByRecursion (λ d. is_added_object names d ≡ false) (decl_list ds)
+pub own-objects : (p : PProgram) (names : List (List ℕ)) (ds : PDecls) → Begins p.names names → EveryDecls (old_names (own_name p)) ds → AllByRecursion (λ d. is_added_object names d ≡ false) (decl_list ds)
 own-objects p names no_decl b h = tt
 own-objects p names (decl_then d ds) b h = (own-object p names d b h.0, own-objects p names ds b h.1)
 
 -- lists one behind the other, and one in front
-append_assoc4 : (x a b c d e : List PDecl) → x ++ a ++ b ++ c ++ d ++ e ≡ x ++ (a ++ b ++ c ++ d ++ e)
+pub append_assoc4 : (x a b c d e : List PDecl) → x ++ a ++ b ++ c ++ d ++ e ≡ x ++ (a ++ b ++ c ++ d ++ e)
 append_assoc4 x a b c d e =
     ap (λ l. l ++ e) (ap (λ l. l ++ d) (ap (λ l. l ++ c) (append_assoc x a b) ∙ append_assoc x (a ++ b) c) ∙ append_assoc x (a ++ b ++ c) d)
     ∙ append_assoc x (a ++ b ++ c ++ d) e
+
+-- The tables of a program and of a text that is told.
+module _ (p : PProgram) (types : TypeTable) (numbers : Numbering) (own : AreOwn p p.decls)
+    (n : AddedNames) (f : PDecl → PDecl) (tells : IsTelling n f) (more : List PDecl) (last : PDecl) where
+  abbrev normal_form : PProgram
+  normal_form = normal_tree p types numbers
+
+  -- what stands behind the first declarations
+  abbrev pub told_behind : List PDecl
+  told_behind =
+      told_with normal_form.names more f (recorder_declared n normal_form.name.span) last (vars p types numbers) (tasks p types numbers) (bodies p types numbers)
+
+  -- the declarations of the text are the first declarations and these
+  pub told-list : told_with normal_form.names more f (recorder_declared n normal_form.name.span) last (firsts p types numbers ++ vars p types numbers) (tasks p types numbers)
+      (bodies p types numbers) ≡ firsts p types numbers ++ told_behind
+  told-list =
+      let its = map f (tasks p types numbers) in
+      let copies = map f (bodies p types numbers) in
+      let recorder = recorder_declared n normal_form.name.span ∷ [] in
+      ap (λ l. l ++ its ++ recorder ++ copies ++ (last ∷ []))
+      (behind-front normal_form.names more (firsts p types numbers) (vars p types numbers)
+      (own-objects p normal_form.names (first_decls [] p.decls) (normal-begins p types numbers) (first-every (old_names (own_name p)) p.decls [] own)))
+      ∙ append_assoc4 (firsts p types numbers) (behind_own normal_form.names more (vars p types numbers)) its recorder copies (last ∷ [])
+
+  -- what holds of each declaration that is added holds of all that stands behind the first ones
+  pub all-told-behind : (P : PDecl → Type 0) → ((t : PTask) (s : Span) → t.of_kind ≡ false → P (DTask (task_telling n t) s)) →
+      ((w : Word) (objects : PDecls) (its : PBody) (s : Span) → P (DTaskBody w objects its s)) → AllByRecursion P more → AllByRecursion P (vars p types numbers) →
+      P (recorder_declared n normal_form.name.span) → IsOneBody last → AllByRecursion P told_behind
+  all-told-behind P each every m v r one =
+      let g = setting_of p types numbers in
+      all-told n f tells P normal_form.names more (recorder_declared n normal_form.name.span) last (vars p types numbers) (tasks p types numbers) (bodies p types numbers)
+      each every m v (tasks-all g) r (bodies-all g) one
+
+  -- The table of the text keeps that of the first declarations.
+  pub told-rooted : IsOrdered p → AllByRecursion (IsAdded (own_name p)) more → IsOneBody last →
+      Rooted (own_name p) (behind p.name (first_decls [] p.decls)).types (types_in p) (after_decls (first_scope p.name) (decls_of (firsts p types numbers ++ told_behind))).types
+  told-rooted ordered new one =
+      let old = own_name p in
+      let first = first_decls [] p.decls in
+      let g = setting_of p types numbers in
+      let variables = unit-new old (main_unit g) (added_names_are_new g) p.body in
+      let added = are-added old told_behind (all-told-behind (IsAdded old) (λ t s single. tt) (λ w objects its s. tt) new variables tt one) in
+      subst (λ (l : PDecls). Rooted old (behind p.name first).types (types_in p) (after_decls (first_scope p.name) l).types) (sym (listed-front first told_behind))
+      (subst (λ (c : Scope). Rooted old (behind p.name first).types (types_in p) c.types) (sym (front-after first (decls_of told_behind) (first_scope p.name)))
+      (rewritten_is_rooted old p.name p.decls first (decls_of told_behind) (first_decls_are_front p ordered) added))
 
 module _ (p : PProgram) (types : TypeTable) (numbers : Numbering) (own : AreOwn p p.decls) where
   abbrev pub normal : PProgram
@@ -132,22 +183,13 @@ module _ (p : PProgram) (types : TypeTable) (numbers : Numbering) (own : AreOwn 
 
   -- what stands behind the first declarations
   abbrev pub added_of : List PDecl
-  added_of =
-      behind_own normal.names more (vars p types numbers)
-      ++ map (collect_decl told normal.names) (tasks p types numbers)
-      ++ (recorder_told told normal ∷ [])
-      ++ map (collect_decl told normal.names) (bodies p types numbers)
-      ++ (recorder_body_told told normal ∷ [])
+  added_of = told_behind p types numbers own told.added (collect_decl told normal.names) (collect-tells told normal.names) more (recorder_body_told told normal)
 
   -- the declarations of the collecting text are the first declarations and these
   pub collect-list : collect_decls told normal (decl_list normal.decls) ≡ firsts p types numbers ++ added_of
   collect-list =
       (λ i. units_told told normal (normal-plain p types numbers i) (normal-tasks p types numbers i) (normal-bodies p types numbers i))
-      ∙ ap (λ l. l ++ map (collect_decl told normal.names) (tasks p types numbers) ++ (recorder_told told normal ∷ []) ++ map (collect_decl told normal.names) (bodies p types numbers) ++ (recorder_body_told told normal ∷ []))
-      (behind-front normal.names more (firsts p types numbers) (vars p types numbers)
-      (own-objects p normal.names (first_decls [] p.decls) (normal-begins p types numbers) (first-every (old_names (own_name p)) p.decls [] own)))
-      ∙ append_assoc4 (firsts p types numbers) (behind_own normal.names more (vars p types numbers)) (map (collect_decl told normal.names) (tasks p types numbers)) (recorder_told told normal ∷ [])
-      (map (collect_decl told normal.names) (bodies p types numbers)) (recorder_body_told told normal ∷ [])
+      ∙ told-list p types numbers own told.added (collect_decl told normal.names) (collect-tells told normal.names) more (recorder_body_told told normal)
 
   more-new : AllByRecursion (IsAdded (own_name p)) more
   more-new =
@@ -156,28 +198,14 @@ module _ (p : PProgram) (types : TypeTable) (numbers : Numbering) (own : AreOwn 
         (added-is-new p types numbers flags_text refl refl, ((added-is-new p types numbers answer_text refl refl, tt), ((added-is-new p types numbers part_text refl refl, tt), tt))),
       )
 
-  added-new : AreAdded (own_name p) (decls_of added_of)
-  added-new =
-      let old = own_name p in
-      let g = setting_of p types numbers in
-      are-added old added_of
-      (all_joined (IsAdded old) _ _
-      (all_joined (IsAdded old) _ _
-      (all_joined (IsAdded old) _ _
-      (all_joined (IsAdded old) _ _
-      (all-behind (IsAdded old) normal.names more (vars p types numbers) more-new (unit-new old (main_unit g) (added_names_are_new g) p.body))
-      (all_weaker _ _ _ (task-added old) (told-units told normal.names (tasks p types numbers) (tasks-only g))))
-      (tt, tt))
-      (all_weaker _ _ _ (task-added old) (told-units told normal.names (bodies p types numbers) (bodies-only g))))
-      (tt, tt))
-
 pub collect_is_rooted : CollectIsRooted
 collect_is_rooted p types numbers ordered own =
+    let x = told p types numbers own in
+    let names = (normal p types numbers own).names in
     subst (λ (l : PDecls). Rooted (own_name p) (behind p.name (first_decls [] p.decls)).types (types_in p) (after_decls (first_scope p.name) l).types)
-    (sym (ap decls_of (collect-list p types numbers own) ∙ listed-front (first_decls [] p.decls) (added_of p types numbers own)))
-    (subst (λ (c : Scope). Rooted (own_name p) (behind p.name (first_decls [] p.decls)).types (types_in p) c.types)
-    (sym (front-after (first_decls [] p.decls) (decls_of (added_of p types numbers own)) (first_scope p.name)))
-    (rewritten_is_rooted (own_name p) p.name p.decls (first_decls [] p.decls) (decls_of (added_of p types numbers own)) (first_decls_are_front p ordered) (added-new p types numbers own)))
+    (sym (ap decls_of (collect-list p types numbers own)))
+    (told-rooted p types numbers own x.added (collect_decl x names) (collect-tells x names) (more p types numbers own) (recorder_body_told x (normal p types numbers own)) ordered
+    (more-new p types numbers own) tt)
 
 pub collect_agrees : CollectAgrees
 collect_agrees p types numbers ordered own = rooted_agrees (own_name p) (behind p.name (first_decls [] p.decls)).types _ _ (collect_is_rooted p types numbers ordered own)

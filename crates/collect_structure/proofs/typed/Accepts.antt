@@ -10,7 +10,7 @@ use Rattle.ada_tree.specs.PlainProgram.{PProgram}
 use Rattle.ada_tree.specs.Every.{EveryFormal, EveryHead}
 use Rattle.ada_static_rules.specs.Scope.{Scope, FormalPart, Family, single, family, unclear, EntryPart, integer_kind, entry_named}
 use Rattle.ada_static_rules.specs.Declaring.{inner_scope}
-use Rattle.ada_static_rules.specs.Demand.{scalar_only, Site}
+use Rattle.ada_static_rules.specs.Demand.{scalar_only}
 use Rattle.ada_static_rules.specs.RuleArgCount.{written_formals, are_same, fits_accept, wrong_accept}
 use Rattle.ada_static_rules.specs.Sites.{if_there, names_sites, expr_of, all_names, formal_mark_sites, formals_sites, accept_index_sites, head_sites}
 use Rattle.task_model.specs.Setting.{Setting, entry_of}
@@ -31,6 +31,7 @@ use Rattle.collect_model.specs.Names.{caller_text, collect_names, added_in}
 use Rattle.collect_model.specs.Serving.{caller_formal, head_telling}
 use Rattle.collect_structure.specs.typed.Told.{in_number, told_entry, IsToldScope}
 use Rattle.collect_structure.proofs.typed.Calls.{x, named-told}
+use Rattle.replay_structure.proofs.typed.Typed.{same}
 
 -- an own entry that is there
 pub there-is : (o : Option EntryPart) → is_some o ≡ true → (part : EntryPart) × (o ≡ Some part)
@@ -46,9 +47,6 @@ listed-index d part unclear formals e m = m
 module _ (g : Setting) (task : ℕ) (old inner : ℕ → Bool) (c d : Scope) (rel : IsToldScope (record { setting = g; task = task }) old inner c d) where
   abbrev q : PProgram
   q = g.program
-
-  same : (s : Site) → IsMetBut s → IsMetBut s
-  same s m = m
 
   module _ (k : ℕ) (h : PHead) (every : EveryHead (own_rules old) k h) (mine : is_some (entry_named c.own h.entry.name) ≡ true) (m : AllMetBut (head_sites c h)) where
     abbrev found : (part : EntryPart) × (entry_named c.own h.entry.name ≡ Some part)

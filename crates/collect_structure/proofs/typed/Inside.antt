@@ -33,24 +33,14 @@ use Rattle.collect_model.specs.Serving.{caller_formal}
 use Rattle.collect_structure.specs.Names.{added_id}
 use Rattle.collect_structure.specs.typed.Told.{told_entry, IsRecorder, IsTruth, AreOuter, IsToldScope}
 use Rattle.collect_structure.proofs.typed.Scopes.{IsStep, two-steps, one-step, formals-step, inside-names, formals-names, loop-names, name-more}
+use Rattle.task_laws.proofs.legal.rewritten_types.Adding.{names-main}
+use Rattle.ada_static_rules.proofs.found_twice.Declared.{formals_own}
 
 -- ---- what names leave as it is
-
-names-main : (thing : Thing) (ws : List Word) (s : Scope) → (with_names thing s ws).in_main ≡ s.in_main
-names-main thing [] s = refl
-names-main thing (w ∷ ws) s = names-main thing ws (with_name thing s w)
-
-names-own : (thing : Thing) (ws : List Word) (s : Scope) → (with_names thing s ws).own ≡ s.own
-names-own thing [] s = refl
-names-own thing (w ∷ ws) s = names-own thing ws (with_name thing s w)
 
 formals-main : (fs : List PFormal) (s : Scope) → (with_formals s fs).in_main ≡ s.in_main
 formals-main [] s = refl
 formals-main (f ∷ fs) s = formals-main fs (with_names (formal_thing f.mode (marking s f.mark.name)) s f.names) ∙ names-main (formal_thing f.mode (marking s f.mark.name)) f.names s
-
-pub formals-own : (fs : List PFormal) (s : Scope) → (with_formals s fs).own ≡ s.own
-formals-own [] s = refl
-formals-own (f ∷ fs) s = formals-own fs (with_names (formal_thing f.mode (marking s f.mark.name)) s f.names) ∙ names-own (formal_thing f.mode (marking s f.mark.name)) f.names s
 
 -- ---- names that are declared inside
 
@@ -173,7 +163,7 @@ module _ (g : Setting) (task : ℕ) (old inner : ℕ → Bool) (outer : AreOuter
       let same : SameNames old (inner_scope c) e = name-more old (inner_scope c) (inner_scope d) (inside-names old c d rel.names) thing w apart.new in
       scope-kept c d (with_formals (inner_scope c) h.formals) (with_formals e h.formals) step
       (formals-names old (inner_scope c) e same rel.main h.formals (old-formals old h.formals (recursion_from_All (EveryFormal (own_rules old)) h.formals every.2)))
-      (formals-main h.formals (inner_scope c) ∙ rel.main ∙ sym (formals-main h.formals e)) (formals-own h.formals (inner_scope c)) (formals-own h.formals e) rel
+      (formals-main h.formals (inner_scope c) ∙ rel.main ∙ sym (formals-main h.formals e)) (formals_own h.formals (inner_scope c)) (formals_own h.formals e) rel
 
   pub loop-scope-kept : (c d : Scope) (k : ℕ) (x : Option PScheme) → IfSome x (EveryScheme (own_rules old) k) → IfSome x (IsInnerScheme inner) → IsToldScope u old inner c d → IsToldScope u old inner (loop_scope c x) (loop_scope d x)
   loop-scope-kept c d k None every i rel = rel

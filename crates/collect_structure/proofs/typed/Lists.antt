@@ -7,7 +7,7 @@ use Rattle.ada_tree.specs.declared.statements.ParMode.TheVariants.{Take, Give, B
 use Rattle.ada_tree.specs.PlainExpr.{PExpr, EInteger, EName, EIndex, EAttribute, EAttributeOf, EParen, EUnary, EBinary}
 use Rattle.ada_tree.specs.PlainStmt.{PArgs}
 use Rattle.ada_static_rules.specs.Scope.{Scope, FormalPart, Family, single, family, unclear, EntryPart}
-use Rattle.ada_static_rules.specs.Demand.{is_actual, must_be_of, Site}
+use Rattle.ada_static_rules.specs.Demand.{is_actual, must_be_of}
 use Rattle.ada_static_rules.specs.Sites.{site, if_there, expr_sites, expr_of, written_actual_sites, actual_sites, actuals_sites, args_sites}
 use Rattle.task_laws.specs.legal.alike_scopes.Alike.{SameNames}
 use Rattle.task_laws.specs.legal.alike_scopes.Old.{IsOldExpr}
@@ -16,13 +16,11 @@ use Rattle.normal_laws.proofs.structure.typed.Calls.{as_family}
 use Rattle.normal_laws.proofs.structure.typed.Variables.{AllMetBut}
 use Rattle.replay_structure.proofs.typed.Calls.{AreOldArgs}
 use Rattle.normal_laws.proofs.structure.typed.Stays.{stays, expr-stays, of-stays}
+use Rattle.replay_structure.proofs.typed.Typed.{same}
 
 -- ---- lists that stay
 
 module _ (old : ℕ → Bool) (c d : Scope) (names : SameNames old c d) where
-  same : (s : Site) → IsMetBut s → IsMetBut s
-  same s m = m
-
   pub exprs-stay : (es : List PExpr) → AllByRecursion (IsOldExpr old) es → AllMetBut (flat_map (expr_sites c) es) → AllMetBut (flat_map (expr_sites d) es)
   exprs-stay [] o m = tt
   exprs-stay (e ∷ es) o m =

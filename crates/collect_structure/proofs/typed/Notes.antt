@@ -43,7 +43,7 @@ take-met d k e rest h m =
     ((all_back IsMetBut (expr_sites d e) (site d (must_be_of e (Some k)) ∷ []) all).0, m)
 
 -- a variable of BOOLEAN is one with that subtype
-abbrev truth-variable : (d : Scope) (id : NameId) (s : Span) → IsTruth d id → IsVariableOf predefined_types d id (truth_subtype s)
+abbrev pub truth-variable : (d : Scope) (id : NameId) (s : Span) → IsTruth d id → IsVariableOf predefined_types d id (truth_subtype s)
 truth-variable d id s v = record {
   place = v.place;
   mark = v.mark;

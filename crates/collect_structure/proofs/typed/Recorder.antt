@@ -43,14 +43,14 @@ use Rattle.collect_structure.specs.typed.Recording.{AreFlags, ArePredefined, IsF
 use Rattle.collect_structure.specs.typed.Told.{note_parts}
 
 -- names of six formals, none of which is this
-abbrev AreOther : List Word → NameId → Type 0
+abbrev pub AreOther : List Word → NameId → Type 0
 AreOther ws id = AllByRecursion (λ (w : Word). (w.name.0 == id.0) ≡ false) ws
 
 -- a word is among words, in front or behind
-in-front : (w : Word) (ws : List Word) → IsIn (w ∷ ws) w.name
+pub in-front : (w : Word) (ws : List Word) → IsIn (w ∷ ws) w.name
 in-front w ws = ap (λ b. b || list_any (λ (x : Word). x.name.0 == w.name.0) ws) (eq-eqb w.name.0 w.name.0 refl)
 
-in-behind : (w : Word) (ws : List Word) (id : NameId) → IsIn ws id → IsIn (w ∷ ws) id
+pub in-behind : (w : Word) (ws : List Word) (id : NameId) → IsIn ws id → IsIn (w ∷ ws) id
 in-behind w ws id h = by_test (w.name.0 == id.0)
   where
     by_test : (b : Bool) → (b || list_any (λ (x : Word). x.name.0 == id.0) ws) ≡ true
@@ -58,7 +58,7 @@ in-behind w ws id h = by_test (w.name.0 == id.0)
     by_test false = h
 
 -- nothing is refused at places, and at none behind them
-behind-none : (xs : List Site) → AllMetBut xs → AllMetBut (xs ++ [])
+pub behind-none : (xs : List Site) → AllMetBut xs → AllMetBut (xs ++ [])
 behind-none xs m = all_joined IsMetBut xs [] m tt
 
 module _ (q : PProgram) (begins : take (length predefined) q.names ≡ predefined) (s : Span) where
@@ -68,7 +68,7 @@ module _ (q : PProgram) (begins : take (length predefined) q.names ≡ predefine
   -- ---- names
 
   -- a new name is none of the predefined ones
-  new-other : (t : List ℕ) → Has added_texts t → Has new_texts t → (k : ℕ) → is_predefined k ≡ true → ((added_id q t).0 == k) ≡ false
+  pub new-other : (t : List ℕ) → Has added_texts t → Has new_texts t → (k : ℕ) → is_predefined k ≡ true → ((added_id q t).0 == k) ≡ false
   new-other t h i k e = by_test ((added_id q t).0 == k) refl
     where
       by_test : (b : Bool) → ((added_id q t).0 == k) ≡ b → b ≡ false
@@ -87,13 +87,13 @@ module _ (q : PProgram) (begins : take (length predefined) q.names ≡ predefine
   abbrev reply : List Word
   reply = word_at s n.reply ∷ []
 
-  five-predefined : (k : ℕ) → is_predefined k ≡ true → AreOther five (record { 0 = k })
+  pub five-predefined : (k : ℕ) → is_predefined k ≡ true → AreOther five (record { 0 = k })
   five-predefined k e = (
     new-other kind_text refl refl k e,
     (new-other subject_text refl refl k e, (new-other argument_text refl refl k e, (new-other index_text refl refl k e, (new-other owner_text refl refl k e, tt)))),
   )
 
-  five-gone : AreOther five n.gone
+  pub five-gone : AreOther five n.gone
   five-gone = (
     texts-apart q kind_text gone_text refl refl refl refl,
     (
@@ -102,7 +102,7 @@ module _ (q : PProgram) (begins : take (length predefined) q.names ≡ predefine
     ),
   )
 
-  five-met : AreOther five n.met
+  pub five-met : AreOther five n.met
   five-met = (
     texts-apart q kind_text met_text refl refl refl refl,
     (
@@ -111,11 +111,11 @@ module _ (q : PProgram) (begins : take (length predefined) q.names ≡ predefine
     ),
   )
 
-  same-name : (id : NameId) → (id.0 == id.0) ≡ true
+  pub same-name : (id : NameId) → (id.0 == id.0) ≡ true
   same-name id = eq-eqb id.0 id.0 refl
 
   -- the formals of an accept are those of the entry
-  same-formals : are_same (written_formals (note_formals n s)) (note_parts q) ≡ true
+  pub same-formals : are_same (written_formals (note_formals n s)) (note_parts q) ≡ true
   same-formals = all-six (same-name n.kind) (same-name n.subject) (same-name n.argument) (same-name n.index) (same-name n.owner) (same-name n.reply)
     where
       all-six : {a b c d e f : Bool} → a ≡ true → b ≡ true → c ≡ true → d ≡ true → e ≡ true → f ≡ true →

@@ -15,7 +15,6 @@ use Rattle.ada_tree.specs.Every.{Rules, EveryWord, EveryArgs, EveryChoice}
 use Rattle.ada_static_rules.specs.Scope.{Scope, Thing, Parameter, AsScalar, integer_kind, meaning, reading, reading_of, reading_of_mark, marking, mark_at, kind_at, entry_named}
 use Rattle.ada_static_rules.specs.ExprTypes.{is_other_kind, name_kind}
 use Rattle.ada_static_rules.specs.Declaring.{with_name, inner_scope, formal_thing, with_formals}
-use Rattle.ada_static_rules.specs.Demand.{Site}
 use Rattle.ada_static_rules.specs.RuleArrayUse.{array_in_node, whole_array}
 use Rattle.ada_static_rules.specs.RuleMismatch.{no_value}
 use Rattle.ada_static_rules.specs.RuleReadOut.{out_formal}
@@ -55,13 +54,12 @@ use Rattle.collect_structure.proofs.typed.Notes.{CallMet, answer-met, late-met, 
 use Rattle.collect_structure.proofs.typed.Calls.{x, callee-stays, telling-met, index-fit}
 use Rattle.collect_structure.proofs.typed.Accepts.{there-is, head-met, begun-fit}
 use Rattle.collect_structure.proofs.typed.Scopes.{IsStep, formals-step}
-use Rattle.collect_structure.proofs.typed.Inside.{IsCallerApart, formals-own, accept-scope, loop-scope-kept}
-
-pub same : (s : Site) → IsMetBut s → IsMetBut s
-same s m = m
+use Rattle.collect_structure.proofs.typed.Inside.{IsCallerApart, accept-scope, loop-scope-kept}
+use Rattle.replay_structure.proofs.typed.Typed.{same}
+use Rattle.ada_static_rules.proofs.found_twice.Declared.{formals_own as formals-own}
 
 -- a formal of mode in of INTEGER
-parameter-fit : (d : Scope) (id : NameId) (s : Span) (m : ℕ) → meaning d id ≡ Some (Parameter Take m) → reading_of_mark d.types (mark_at d.types m) ≡ AsScalar integer_kind → IsFit d integer_kind (EName id s)
+pub parameter-fit : (d : Scope) (id : NameId) (s : Span) (m : ℕ) → meaning d id ≡ Some (Parameter Take m) → reading_of_mark d.types (mark_at d.types m) ≡ AsScalar integer_kind → IsFit d integer_kind (EName id s)
 parameter-fit d id s m means r =
     let read : reading d id ≡ AsScalar integer_kind = ap (reading_of d.types) means ∙ r in
     record {
@@ -80,7 +78,7 @@ parameter-fit d id s m means r =
       );
     }
 
-integer-read : (d : Scope) (int : IsInteger d) → reading_of_mark d.types (mark_at d.types int.its.place) ≡ AsScalar integer_kind
+pub integer-read : (d : Scope) (int : IsInteger d) → reading_of_mark d.types (mark_at d.types int.its.place) ≡ AsScalar integer_kind
 integer-read d int = ap (reading_of_mark d.types) int.its.there ∙ scalar-reading int.its.mark.kind (kind_at d.types int.its.mark.kind) int.its.scalar.0 int.its.scalar.1 ∙ ap AsScalar int.its.kind
 
 module _ (g : Setting) (task : ℕ) (old inner : ℕ → Bool) (outer : AreOuter g.program inner) (apart : IsCallerApart g old) where
@@ -116,7 +114,7 @@ module _ (g : Setting) (task : ℕ) (old inner : ℕ → Bool) (outer : AreOuter
   abbrev pub H : ℕ → Type 0
   H k = Prim.Unit {0}
 
-  if-args : (k : ℕ) (o : Option PArgs) → IfSome o (EveryArgs r k) → IfSome o (AreOldArgs old)
+  pub if-args : (k : ℕ) (o : Option PArgs) → IfSome o (EveryArgs r k) → IfSome o (AreOldArgs old)
   if-args k None h = tt
   if-args k (Some args) h = old-args old k args h
 

@@ -24,10 +24,11 @@ use Rattle.run_laws.specs.aborts.Settings.{Setting, recorder, twin, start_copy, 
 use Rattle.run_laws.proofs.aborts.Instances.{start_own, start_recorder}
 use Rattle.run_laws.proofs.collecting.Reaching.{base, come_first}
 use Rattle.run_laws.proofs.collecting.Telling.{going, Way, way_none, way_then, way_step}
-use Rattle.run_laws.proofs.aborts.Moving.{other_at, copy_original}
+use Rattle.run_laws.proofs.aborts.Moving.{copy_original}
 use Rattle.run_laws.proofs.aborts.Covering.{waits_too, SettledAt, SetFree, SetServed, SetGone, Settled, Settles, free_there, else_settles, delay_settles, call_else_settles, expire_settles, fail_settles, meet_settles, complete_settles, step_settles}
 use Rattle.run_laws.proofs.aborts.Ending.{finish_settles}
 use Rattle.run_laws.proofs.aborts.Striking.{abort_settles}
+use Rattle.run_laws.proofs.collecting.Covered.{other_at}
 
 module _ {o : Original} (x : Setting o) where
   module _ (d : World o.L) (come : IsComeTo o d) (over : IsOver o d) (runs : d.ended ≡ false) (b : Book) (tasks : ℕ → Seat (Copy o.L)) (set : Settled x b tasks d.tasks) where

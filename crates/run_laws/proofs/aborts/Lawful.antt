@@ -3,7 +3,6 @@ use Rattle.std.proofs.Common.{◌≡◌, ℕ, Bool, true, false, ◌==◌, if◌
 use Rattle.std.specs.Prelude.{ℤ}
 use Rattle.event_machine.specs.declared.CallForm.{CallForm}
 use Rattle.event_machine.specs.declared.CallForm.TheVariants.{Plain, Conditional, Timed}
-use Rattle.event_machine.specs.declared.Choice.{Choice}
 use Rattle.event_machine.specs.Offers.{Offer, Nothing, Calls, Waits, Finishes, Ends, Aborts, waits_with, is_finish, is_end, opens}
 use Rattle.event_machine.specs.Lawful.{IsLawful, Keeps}
 use Rattle.event_machine.proofs.Offering.{finish_is, end_is}
@@ -13,6 +12,7 @@ use Rattle.run_laws.specs.collecting.Settings.{is_call}
 use Rattle.run_laws.specs.aborts.Notes.{Note, ToAbort, Book}
 use Rattle.run_laws.specs.aborts.Copies.{Due, Begun, TookElse, TookDelay, TookOther, Failed, Returned, Over, Copy, Based, Calling, Owing, Refusing, Leaving, Opening, Recording, Writing, Striking, Noted, under, based_offer, line_ends, told, call_owes, wait_owes, first_caller, copy_steps, copy_stepped, copy_callers, done_by, answered, copy_finished, copy_passed, copy_offer, copy_accepted, copy_resumed}
 use Rattle.run_laws.specs.aborts.Settings.{Setting, twin, IsProperDue, IsProperCopy}
+use Rattle.run_laws.proofs.collecting.Lawful.{call_no_wait}
 
 -- what no note passes, a task of the copy offers only where the original does
 pub based_passes : (note : ℕ) (test : Offer → Bool) (t : ℕ) (offer : Offer) → test (telling note) ≡ false → test (based_offer note t offer) ≡ true → test offer ≡ true
@@ -26,11 +26,6 @@ based_passes note test t Ends tells h = go (t == 0) h
     go true k = k
     go false k = absurd (true≢false (sym k ∙ tells))
 based_passes note test t (Aborts v) tells h = absurd (true≢false (sym h ∙ tells))
-
--- a call is no wait
-call_no_wait : (test : Choice → Bool) (offer : Offer) → is_call offer ≡ true → waits_with test offer ≡ true → ⊥
-call_no_wait test (Waits choices) q h = true≢false (sym q)
-call_no_wait test offer q h = true≢false (sym h)
 
 module _ {o : Original} (x : Setting o) where
   abbrev KeepsCopy : Copy o.L → Copy o.L → Type 0

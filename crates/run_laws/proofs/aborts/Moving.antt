@@ -6,7 +6,7 @@ use Rattle.event_machine.specs.declared.Standing.TheVariants.{Live, Waiting, Que
 use Rattle.event_machine.specs.declared.Event.{Event}
 use Rattle.event_machine.specs.declared.Event.TheVariants.{R, E, S, D, C, T, F, X, B, Z}
 use Rattle.event_machine.specs.Offers.{waits_with, is_end, is_terminate}
-use Rattle.event_machine.specs.States.{Ops, Seat, live, completed, is_live, is_closed, is_completed, is_served_by}
+use Rattle.event_machine.specs.States.{Seat, live, completed, is_live, is_closed, is_completed, is_served_by}
 use Rattle.event_machine.specs.Programs.{numbered, IsOpening}
 use Rattle.event_machine.specs.Worlds.{World, Move, Step, Happen, still, still_seat, world_of, can_move, moved, happens, offers, others_end}
 use Rattle.event_machine.specs.Soundness.{IsSound, times}
@@ -32,16 +32,7 @@ use Rattle.run_laws.proofs.aborts.Partings.{finish_moves}
 use Rattle.run_laws.proofs.aborts.Aborts.{abort_moves}
 use Rattle.run_laws.proofs.aborts.Steps.{recorder_steps}
 use Rattle.common_lemmas.proofs.Truth.{not_true}
-
--- what is so of each task from 1 up and below 1 + n
-pub other_at : {L : Type 0} (ops : Ops L) (tasks : ℕ → Seat L) (n : ℕ) → others_end ops tasks n ≡ true → (u : ℕ) → suc u ≤ n →
-    (is_completed (tasks (suc u)).standing || offers ops (waits_with is_terminate) (tasks (suc u))) ≡ true
-other_at ops tasks zero h u l = absurd (omega (arith, l))
-other_at ops tasks (suc n) h u l =
-    let k = and_parts (others_end ops tasks n) (is_completed (tasks (suc n)).standing || offers ops (waits_with is_terminate) (tasks (suc n))) h in
-    ⊎_elim (λ (m : u < n). other_at ops tasks n k.0 u m)
-    (λ (m : n ≤ u). let e : n ≡ u = omega (arith, l, m) in subst (λ v. (is_completed (tasks (suc v)).standing || offers ops (waits_with is_terminate) (tasks (suc v))) ≡ true) e k.1)
-    (cases_lt u n)
+use Rattle.run_laws.proofs.collecting.Covered.{other_at}
 
 module _ {o : Original} (x : Setting o) where
   module _ (past : List Event) (r : Copy o.L) (d : World o.L) (w : World (Copy o.L)) (inv : Inv x past r d w) where

@@ -28,7 +28,7 @@ use Rattle.run_laws.proofs.collecting.Telling.{going, Way, way_none, way_then, w
 use Rattle.run_laws.proofs.collecting.Covering.{based_wait, SettledAt, SetFree, SetServed, SetGone, Settled, Settles, free_there, else_settles, delay_settles, call_else_settles, expire_settles, fail_settles, meet_settles, finish_settles, complete_settles, step_settles}
 
 -- what is so of each task from 1 up and below 1 + n
-other_at : {L : Type 0} (ops : Ops L) (tasks : ℕ → Seat L) (n : ℕ) → others_end ops tasks n ≡ true → (u : ℕ) → suc u ≤ n →
+pub other_at : {L : Type 0} (ops : Ops L) (tasks : ℕ → Seat L) (n : ℕ) → others_end ops tasks n ≡ true → (u : ℕ) → suc u ≤ n →
     (is_completed (tasks (suc u)).standing || offers ops (waits_with is_terminate) (tasks (suc u))) ≡ true
 other_at ops tasks zero h u l = absurd (omega (arith, l))
 other_at ops tasks (suc n) h u l =

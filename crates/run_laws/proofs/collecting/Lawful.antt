@@ -38,7 +38,7 @@ based_no_finish note t Ends = go (t == 0)
 based_no_finish note t (Aborts x) = refl
 
 -- a call is no wait
-call_no_wait : (test : Choice → Bool) (offer : Offer) → is_call offer ≡ true → waits_with test offer ≡ true → ⊥
+pub call_no_wait : (test : Choice → Bool) (offer : Offer) → is_call offer ≡ true → waits_with test offer ≡ true → ⊥
 call_no_wait test (Waits choices) q h = true≢false (sym q)
 call_no_wait test offer q h = true≢false (sym h)
 

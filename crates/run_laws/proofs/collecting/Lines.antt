@@ -31,7 +31,7 @@ use Rattle.run_laws.proofs.collecting.Meetings.{served_once, start_is, served_be
 use Rattle.common_lemmas.proofs.Numbers.{equal_self, unequal_above, unequal_turned}
 
 -- who tells of its end is not the main program
-end_other : (note t : ℕ) → based_offer note t Ends ≡ telling note → (t == 0) ≡ false
+pub end_other : (note t : ℕ) → based_offer note t Ends ≡ telling note → (t == 0) ≡ false
 end_other note t h = go (t == 0) refl h
   where
     go : (b : Bool) → (t == 0) ≡ b → (if b then Ends else telling note) ≡ telling note → (t == 0) ≡ false

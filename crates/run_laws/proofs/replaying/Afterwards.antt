@@ -71,7 +71,7 @@ module _ (x : Setting) where
     pub admits : x.progress.admits (after_all x past) e ≡ true
     pub settled : more ≡ [] → stage ≡ Giving e tail given []
 
-  holds_if : (b : Bool) (permit other : Permit) → (if b then Holds other else Away) ≡ Holds permit → (b ≡ true) × (permit ≡ other)
+  pub holds_if : (b : Bool) (permit other : Permit) → (if b then Holds other else Away) ≡ Holds permit → (b ≡ true) × (permit ≡ other)
   holds_if true permit other h = (refl, let k : Holds other ≡ Holds permit = h in cc)
   holds_if false permit other h = absurd (let k : Away ≡ Holds permit = h in cc)
 

@@ -188,10 +188,6 @@ module _ (x : Setting) {K : Type 0} (ops : Ops K) (out : K → List ℕ) (Meets 
 
   -- ---- events
 
-  -- facts on states that are known
-  reach_by : (P : K → K) {k : K} {m n : Copy x.L} (f : Copy x.L → Copy x.L) → m ≡ n → Reaches x ops out Meets (P k) (f n) → Reaches x ops out Meets (P k) (f m)
-  reach_by P {k} {m} {n} f q h = subst (λ v. Reaches x ops out Meets (P k) (f v)) (sym q) h
-
   module _ (tasks : ℕ → Seat K) (w : World (Copy x.L)) (alike : AreAlike tasks w.tasks) (fine : (t : ℕ) → StepsFine (w.tasks t)) where
     -- what a task meets, where its copy is known
     meets_at : (t : ℕ) (n : Copy x.L) → w.tasks t ≡ live n → Meets (tasks t).local (w.tasks t).local → Meets (tasks t).local n

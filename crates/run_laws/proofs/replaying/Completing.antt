@@ -24,10 +24,10 @@ use Rattle.run_laws.proofs.replaying.Silently.{matched_silent, unseen}
 use Rattle.common_lemmas.proofs.Numbers.{lt_false, unequal_above}
 
 module _ (x : Setting) where
-  controlling : {ops more : List Op} → live {L = Copy x.L} (Controlling ops) ≡ live (Controlling more) → ops ≡ more
+  pub controlling : {ops more : List Op} → live {L = Copy x.L} (Controlling ops) ≡ live (Controlling more) → ops ≡ more
   controlling {ops} {more} h = let k : ◌≡◌ {A = Copy x.L} (Controlling ops) (Controlling more) = ap (λ (y : Seat (Copy x.L)). y.local) h in cc
 
-  not_handing : {op : Op} {ops more : List Op} → live {L = Copy x.L} (Handing op ops) ≡ live (Controlling more) → ⊥
+  pub not_handing : {op : Op} {ops more : List Op} → live {L = Copy x.L} (Handing op ops) ≡ live (Controlling more) → ⊥
   not_handing {op} {ops} {more} h = let k : ◌≡◌ {A = Copy x.L} (Handing op ops) (Controlling more) = ap (λ (y : Seat (Copy x.L)). y.local) h in cc
 
   -- an original task completes

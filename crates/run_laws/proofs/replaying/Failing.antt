@@ -12,7 +12,7 @@ use Rattle.event_machine.specs.Admitting.{IsAdmitted}
 use Rattle.event_machine.proofs.Basics.{both, split, same_member-true}
 use Rattle.run_laws.specs.replaying.Permits.{Permit, ToFail, permit_of, Op, Go, Done, Join, Hold}
 use Rattle.run_laws.specs.replaying.Scripts.{takers, grants}
-use Rattle.run_laws.specs.replaying.Copies.{Copy, Holding, Controlling, Handing, copy_raised, ops_offer}
+use Rattle.run_laws.specs.replaying.Copies.{Copy, Holding, Controlling, copy_raised, ops_offer}
 use Rattle.run_laws.specs.replaying.Rewritings.{Setting, control, idle, left, twin}
 use Rattle.run_laws.specs.replaying.Laws.{at_entry, stands_for}
 use Rattle.run_laws.specs.replaying.inner.Stages.{image, image_world, Stage, Held, Giving, Asked, Acted, Told, Parted, Over, Away, Holds, place, member, in_order, SeatAt, ControlAt, behind_event, Inv}
@@ -30,14 +30,9 @@ use Rattle.run_laws.proofs.replaying.Silently.{matched_silent, unseen, says_acte
 use Rattle.run_laws.proofs.replaying.Parting.{Next, next}
 use Rattle.run_laws.proofs.replaying.Standing.{image_closed, control_open}
 use Rattle.common_lemmas.proofs.Numbers.{equal_self, unequal_above}
+use Rattle.run_laws.proofs.replaying.Completing.{controlling, not_handing}
 
 module _ (x : Setting) where
-  controlling : {ops more : List Op} → live {L = Copy x.L} (Controlling ops) ≡ live (Controlling more) → ops ≡ more
-  controlling {ops} {more} h = let k : ◌≡◌ {A = Copy x.L} (Controlling ops) (Controlling more) = ap (λ (y : Seat (Copy x.L)). y.local) h in cc
-
-  not_handing : {op : Op} {ops more : List Op} → live {L = Copy x.L} (Handing op ops) ≡ live (Controlling more) → ⊥
-  not_handing {op} {ops} {more} h = let k : ◌≡◌ {A = Copy x.L} (Handing op ops) (Controlling more) = ap (λ (y : Seat (Copy x.L)). y.local) h in cc
-
   -- an event after which the controller waits for a task to be closed
   pub behind_join : (g : x.G) (e : Event) (tail : List Event) (t : ℕ) (ops : List Op) → behind_event x g e tail ≡ Join t ∷ ops → takers x.progress x.p.owner g e ≡ t ∷ []
   behind_join g (R c e i) tail t ops h = absurd cc
@@ -78,7 +73,7 @@ module _ (x : Setting) where
       (λ (m : x.p.size ≤ t). absurd (let k : Completed ≡ Live = sym (past_completed x t (w.tasks t) m) ∙ h in cc))
       (cases_lt t x.p.size)
 
-  first_member : (a : ℕ) → member a (a ∷ []) ≡ true
+  pub first_member : (a : ℕ) → member a (a ∷ []) ≡ true
   first_member a = ap (λ b. b || false) (equal_self a)
 
   module _ (past rest : List Event) (w : World (Copy x.L)) (runs : w.ended ≡ false) where
@@ -98,12 +93,12 @@ module _ (x : Setting) where
     -- the controller's call fails only where it waits for a closed task
     join_fails : (stage : Stage) → Inv x past rest stage w → (t : ℕ) (ops : List Op) → w.tasks (control x) ≡ live (Controlling (Join t ∷ ops)) → (t < x.p.size → is_closed (w.tasks t).standing ≡ true) →
         Matched x past (record { tasks = put w.tasks (control x) (live (copy_raised x.p.ops x.n (w.tasks (control x)).local)); ended = w.ended })
-    join_fails Held inv t ops h closed = absurd (let q : Hold ∷ [] ≡ Join t ∷ ops = controlling (sym inv.controls ∙ h) in cc)
+    join_fails Held inv t ops h closed = absurd (let q : Hold ∷ [] ≡ Join t ∷ ops = controlling x (sym inv.controls ∙ h) in cc)
     join_fails (Giving e tail given []) inv t ops h closed = ⊎_elim
         (λ q.
-        let k = behind_join (after_all x past) e tail t ops (controlling (sym q ∙ h)) in
+        let k = behind_join (after_all x past) e tail t ops (controlling x (sym q ∙ h)) in
         let o : given ≡ t ∷ [] = given_is given (inv.fits.3 ∙ k) in
-        let m : t < x.p.size = live_below w t (joiner_live (after_all x past) e tail t ops (controlling (sym q ∙ h)) (image x w.tasks) (reached_admitted x past (image_world x w) inv.reached e runs inv.fits.2)) in
+        let m : t < x.p.size = live_below w t (joiner_live (after_all x past) e tail t ops (controlling x (sym q ∙ h)) (image x w.tasks) (reached_admitted x past (image_world x w) inv.reached e runs inv.fits.2)) in
         let s = subst (λ b. SeatAt x (if b then Holds (permit_of e) else Away) t (w.tasks t)) (ap (member t) o ∙ first_member t) (inv.seats t m) in
         absurd (true≢false (sym (closed m) ∙ ap (λ (y : Seat (Copy x.L)). is_closed y.standing) s.1)))
         (λ q. absurd (let k : Completed ≡ Live = sym q.1 ∙ ap (λ (y : Seat (Copy x.L)). y.standing) h in cc)) inv.controls
@@ -112,11 +107,11 @@ module _ (x : Setting) where
         given_is [] q = absurd (let k : ◌≡◌ {A = List ℕ} [] (t ∷ []) = q in cc)
         given_is (g ∷ given) q = (only_one (g ∷ given) [] t g q (ap (λ b. b || member g given) (equal_self g))).1
     join_fails (Giving e tail given (u ∷ more)) inv t ops h closed = ⊎_elim
-        (λ q. absurd (let k : Go u (permit_of e) ∷ grants (permit_of e) more (behind_event x (after_all x past) e tail) ≡ Join t ∷ ops = controlling (sym q ∙ h) in cc))
+        (λ q. absurd (let k : Go u (permit_of e) ∷ grants (permit_of e) more (behind_event x (after_all x past) e tail) ≡ Join t ∷ ops = controlling x (sym q ∙ h) in cc))
         (λ q. absurd (let k : Completed ≡ Live = sym q.1 ∙ ap (λ (y : Seat (Copy x.L)). y.standing) h in cc)) inv.controls
-    join_fails (Asked e tail given b more) inv t ops h closed = absurd (not_handing (sym inv.controls ∙ h))
-    join_fails (Acted b) inv t ops h closed = absurd (let q : Done b ∷ left x (after_all x past) rest ≡ Join t ∷ ops = controlling (sym inv.controls ∙ h) in cc)
-    join_fails (Told b) inv t ops h closed = absurd (not_handing (sym inv.controls ∙ h))
+    join_fails (Asked e tail given b more) inv t ops h closed = absurd (not_handing x (sym inv.controls ∙ h))
+    join_fails (Acted b) inv t ops h closed = absurd (let q : Done b ∷ left x (after_all x past) rest ≡ Join t ∷ ops = controlling x (sym inv.controls ∙ h) in cc)
+    join_fails (Told b) inv t ops h closed = absurd (not_handing x (sym inv.controls ∙ h))
     join_fails (Parted b) inv t ops h closed =
         let n : Next x (after_all x past) rest = next x (after_all x past) rest in
         record {

@@ -3,14 +3,13 @@ use Rattle.std.proofs.Common.{◌≡◌, ℕ, zero, suc, pred, ◌<◌, ◌≤�
 use Rattle.std.specs.Prelude.{ℤ, pos}
 use Rattle.std.specs.List.{cons_option}
 use Rattle.std.proofs.lemmas.Bool.{and_parts, or_cases, or_left, or_right, cases_lt, false_from_ne_true}
-use Rattle.event_machine.specs.declared.CallForm.{CallForm}
 use Rattle.event_machine.specs.declared.CallForm.TheVariants.{Plain}
 use Rattle.event_machine.specs.declared.Choice.TheVariants.{Accept, Terminate}
 use Rattle.event_machine.specs.declared.Standing.{Standing}
 use Rattle.event_machine.specs.declared.Standing.TheVariants.{Live, Waiting, Queued, Served, Completed, Killed}
 use Rattle.event_machine.specs.declared.Event.{Event}
 use Rattle.event_machine.specs.declared.Event.TheVariants.{R, E, S, D, C, T, F, X, B, Z}
-use Rattle.event_machine.specs.Offers.{Offer, Nothing, Calls, Waits, Finishes, Ends, Aborts, calls_in, is_any_form, is_conditional, is_timed, waits_with, is_finish, is_end, opens, is_else, is_delay, is_terminate, same_member}
+use Rattle.event_machine.specs.Offers.{Offer, Calls, Waits, Ends, calls_in, is_any_form, is_conditional, is_timed, waits_with, is_finish, is_end, opens, is_else, is_delay, is_terminate, same_member}
 use Rattle.event_machine.specs.States.{Seat, live, is_live, is_closed, is_completed}
 use Rattle.event_machine.specs.Worlds.{World, Move, Happen, can_move, moved, happens, happened, offers, others_end, aborts, AreMoves}
 use Rattle.event_machine.proofs.Basics.{both, same_member-refl, false_not}
@@ -27,20 +26,12 @@ use Rattle.run_laws.proofs.replaying.Images.{image_at, image_beyond}
 use Rattle.run_laws.proofs.replaying.Reached.{after_all, reached_sound, reached_fine}
 use Rattle.run_laws.proofs.replaying.Silently.{unseen}
 use Rattle.run_laws.proofs.replaying.Singles.{image_live}
-use Rattle.run_laws.proofs.replaying.Failing.{live_below}
+use Rattle.run_laws.proofs.replaying.Failing.{live_below, first_member}
 use Rattle.run_laws.proofs.replaying.Standing.{image_closed, order_member, member_append, taken_last}
 use Rattle.run_laws.proofs.replaying.Steering.{Unseen}
 use Rattle.run_laws.proofs.replaying.Granting.{taker_free}
 use Rattle.common_lemmas.proofs.Numbers.{equal_self, lt_false, lt_true, unequal_above}
-
--- a call in one form is one in any form
-any_form : (test : CallForm → Bool) (e : ℕ) (i : ℤ) (o : Offer) → calls_in test e i o ≡ true → calls_in is_any_form e i o ≡ true
-any_form test e i Nothing h = absurd (true≢false (sym h))
-any_form test e i (Calls form f j) h = (and_parts (test form) (same_member e i f j) h).1
-any_form test e i (Waits choices) h = absurd (true≢false (sym h))
-any_form test e i Finishes h = absurd (true≢false (sym h))
-any_form test e i Ends h = absurd (true≢false (sym h))
-any_form test e i (Aborts v) h = absurd (true≢false (sym h))
+use Rattle.run_laws.proofs.collecting.Singles.{calls_any}
 
 module _ (x : Setting) where
   held_shows : (test : Offer → Bool) (t : ℕ) (permit : Permit) (o : Offer) → wants t permit o ≡ true → test (shows x.n t permit o) ≡ true → test (held_offer x.n t permit o) ≡ true
@@ -104,9 +95,6 @@ module _ (x : Setting) where
     owner_closed : (t : ℕ) (k : Holder t) (f : ℕ) (i : ℤ) → calls_in is_any_form f i (x.p.ops.offer k.l) ≡ true → is_closed (w.tasks (x.owner (x.n.shadow f))).standing ≡ is_closed (image x w.tasks (x.p.owner f)).standing
     owner_closed t k f i calls = ap (λ v. is_closed (w.tasks v).standing) (x.owners.shadow f) ∙
         sym (image_closed x past rest (Giving e tail given []) w (x.p.owner f) inv runs (x.calls_tasks k.l f i (proper t k) (fine t k) calls))
-
-  single : (a : ℕ) → member a (a ∷ []) ≡ true
-  single a = ap (λ b. b || false) (equal_self a)
 
   -- ---- the end of the program
 
@@ -242,7 +230,7 @@ module _ (x : Setting) where
       k = holder past rest (R c f i) tail given w inv runs holds c (or_left (c == c) (member c (x.p.owner f ∷ [])) (equal_self c))
 
       j : Holder past rest (R c f i) tail given w inv runs holds (x.p.owner f)
-      j = holder past rest (R c f i) tail given w inv runs holds (x.p.owner f) (or_right (x.p.owner f == c) (member (x.p.owner f) (x.p.owner f ∷ [])) (single (x.p.owner f)))
+      j = holder past rest (R c f i) tail given w inv runs holds (x.p.owner f) (or_right (x.p.owner f == c) (member (x.p.owner f) (x.p.owner f ∷ [])) (first_member x (x.p.owner f)))
 
       calls : calls_in is_any_form f i (x.p.ops.offer k.l) ≡ true
       calls = offered past rest (R c f i) tail given w inv runs holds c k (calls_in is_any_form f i) parts'.0
@@ -250,21 +238,21 @@ module _ (x : Setting) where
       waits : waits_with (opens f i) (x.p.ops.offer j.l) ≡ true
       waits = offered past rest (R c f i) tail given w inv runs holds (x.p.owner f) j (waits_with (opens f i)) parts'.1
   fire past rest (E a) tail given w inv runs holds =
-      let k = holder past rest (E a) tail given w inv runs holds a (single a) in
+      let k = holder past rest (E a) tail given w inv runs holds a (first_member x a) in
       shown_by w (E a) (record {
         event = E a;
         can = both (ap not runs) (shows_here past rest (E a) tail given w inv runs holds a k is_finish (offered past rest (E a) tail given w inv runs holds a k is_finish holds) refl);
         stands = ap (λ b. if b then Some (E a) else None) (lt_true a x.p.size k.below);
       })
   fire past rest (S a) tail given w inv runs holds =
-      let k = holder past rest (S a) tail given w inv runs holds a (single a) in
+      let k = holder past rest (S a) tail given w inv runs holds a (first_member x a) in
       shown_by w (S a) (record {
         event = S a;
         can = both (ap not runs) (shows_here past rest (S a) tail given w inv runs holds a k (waits_with is_else) (offered past rest (S a) tail given w inv runs holds a k (waits_with is_else) holds) refl);
         stands = ap (λ b. if b then Some (S a) else None) (lt_true a x.p.size k.below);
       })
   fire past rest (D a d) tail given w inv runs holds =
-      let k = holder past rest (D a d) tail given w inv runs holds a (single a) in
+      let k = holder past rest (D a d) tail given w inv runs holds a (first_member x a) in
       shown_by w (D a d) (record {
         event = D a d;
         can = both (ap not runs) (shows_here past rest (D a d) tail given w inv runs holds a k (waits_with (is_delay d)) (offered past rest (D a d) tail given w inv runs holds a k (waits_with (is_delay d)) holds)
@@ -272,27 +260,27 @@ module _ (x : Setting) where
         stands = ap (λ b. if b then Some (D a d) else None) (lt_true a x.p.size k.below);
       })
   fire past rest (C c f i) tail given w inv runs holds =
-      let k = holder past rest (C c f i) tail given w inv runs holds c (single c) in
+      let k = holder past rest (C c f i) tail given w inv runs holds c (first_member x c) in
       let h = and_parts (offers x.p.ops (calls_in is_conditional f i) (image x w.tasks c)) (not (is_closed (image x w.tasks (x.p.owner f)).standing)) holds in
       let calls : calls_in is_conditional f i (x.p.ops.offer k.l) ≡ true = offered past rest (C c f i) tail given w inv runs holds c k (calls_in is_conditional f i) h.0 in
       shown_by w (C c f i) (record {
         event = C c (x.n.shadow f) i;
         can = both (ap not runs) (both (shows_here past rest (C c f i) tail given w inv runs holds c k (calls_in is_conditional (x.n.shadow f) i) calls (same_member-refl (x.n.shadow f) i))
-            (ap not (owner_closed past rest (C c f i) tail given w inv runs holds c k f i (any_form is_conditional f i (x.p.ops.offer k.l) calls)) ∙ h.1));
+            (ap not (owner_closed past rest (C c f i) tail given w inv runs holds c k f i (calls_any is_conditional f i (x.p.ops.offer k.l) calls)) ∙ h.1));
         stands = ap (λ s. at_entry (λ v. C c v i) (stands_for s)) (x.numbers.shadow f);
       })
   fire past rest (T c f i) tail given w inv runs holds =
-      let k = holder past rest (T c f i) tail given w inv runs holds c (single c) in
+      let k = holder past rest (T c f i) tail given w inv runs holds c (first_member x c) in
       let h = and_parts (offers x.p.ops (calls_in is_timed f i) (image x w.tasks c)) (not (is_closed (image x w.tasks (x.p.owner f)).standing)) holds in
       let calls : calls_in is_timed f i (x.p.ops.offer k.l) ≡ true = offered past rest (T c f i) tail given w inv runs holds c k (calls_in is_timed f i) h.0 in
       shown_by w (T c f i) (record {
         event = T c (x.n.shadow f) i;
         can = both (ap not runs) (both (shows_here past rest (T c f i) tail given w inv runs holds c k (calls_in is_timed (x.n.shadow f) i) calls (same_member-refl (x.n.shadow f) i))
-            (ap not (owner_closed past rest (T c f i) tail given w inv runs holds c k f i (any_form is_timed f i (x.p.ops.offer k.l) calls)) ∙ h.1));
+            (ap not (owner_closed past rest (T c f i) tail given w inv runs holds c k f i (calls_any is_timed f i (x.p.ops.offer k.l) calls)) ∙ h.1));
         stands = ap (λ s. at_entry (λ v. T c v i) (stands_for s)) (x.numbers.shadow f);
       })
   fire past rest (F c f i) tail given w inv runs holds =
-      let k = holder past rest (F c f i) tail given w inv runs holds c (single c) in
+      let k = holder past rest (F c f i) tail given w inv runs holds c (first_member x c) in
       let h = and_parts (offers x.p.ops (calls_in is_any_form f i) (image x w.tasks c)) (is_closed (image x w.tasks (x.p.owner f)).standing) holds in
       let calls : calls_in is_any_form f i (x.p.ops.offer k.l) ≡ true = offered past rest (F c f i) tail given w inv runs holds c k (calls_in is_any_form f i) h.0 in
       shown_by w (F c f i) (record {
@@ -302,7 +290,7 @@ module _ (x : Setting) where
         stands = ap (λ s. at_entry (λ v. F c v i) (stands_for s)) (x.numbers.shadow f);
       })
   fire past rest (X a) tail given w inv runs holds =
-      let k = holder past rest (X a) tail given w inv runs holds a (single a) in
+      let k = holder past rest (X a) tail given w inv runs holds a (first_member x a) in
       let h = and_parts (not (a == 0)) (offers x.p.ops is_end (image x w.tasks a)) holds in
       shown_by w (X a) (record {
         event = X a;
@@ -310,7 +298,7 @@ module _ (x : Setting) where
         stands = ap (λ b. if b then Some (X a) else None) (lt_true a x.p.size k.below);
       })
   fire past rest (B t v) tail given w inv runs holds =
-      let k = holder past rest (B t v) tail given w inv runs holds t (single t) in
+      let k = holder past rest (B t v) tail given w inv runs holds t (first_member x t) in
       let names : aborts v (x.p.ops.offer k.l) ≡ true = offered past rest (B t v) tail given w inv runs holds t k (aborts v) holds in
       shown_by w (B t v) (record {
         event = B t v;

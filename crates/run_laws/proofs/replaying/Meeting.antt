@@ -24,7 +24,7 @@ use Rattle.run_laws.proofs.replaying.Reached.{after_all}
 use Rattle.run_laws.proofs.replaying.Orders.{only_two, IsPair}
 use Rattle.run_laws.proofs.replaying.Telling.{of_meet}
 use Rattle.run_laws.proofs.replaying.Speaking.{Speaks, Asking, Using, Refused, Reporting, Commanding, Serving, Resting, speaks}
-use Rattle.run_laws.proofs.replaying.Afterwards.{after_event}
+use Rattle.run_laws.proofs.replaying.Afterwards.{after_event, holds_if}
 use Rattle.run_laws.proofs.replaying.Situations.{MetGo, MetDone, MetBoth}
 use Rattle.run_laws.proofs.replaying.Singles.{Moves, matched_event, image_live}
 use Rattle.run_laws.proofs.replaying.Silently.{met_with, met_is, matched_silent, GoesTo, goes_to, says_acted, served_tasks, asks, tells}
@@ -81,10 +81,6 @@ module _ (x : Setting) where
     order : in_order given more ≡ takers x.progress x.p.owner (after_all x past) e
     settled : more ≡ [] → stage ≡ Giving e tail given []
 
-  holds_if : (b : Bool) (permit other : Permit) → (if b then Holds other else Away) ≡ Holds permit → (b ≡ true) × (permit ≡ other)
-  holds_if true permit other h = (refl, let k : Holds other ≡ Holds permit = h in cc)
-  holds_if false permit other h = absurd (let k : Away ≡ Holds permit = h in cc)
-
   asks_if : (c : Bool) (z : Place) (permit : Permit) → (if c then Asks else z) ≡ Holds permit → z ≡ Holds permit
   asks_if true z permit h = absurd (let k : Asks ≡ Holds permit = h in cc)
   asks_if false z permit h = h
@@ -101,12 +97,12 @@ module _ (x : Setting) where
       place stage a ≡ Holds permit → place stage b ≡ Holds permit → PermittedBoth past stage a b permit
   permitted_both past rest Held w a b permit f h k = absurd (let q : Away ≡ Holds permit = h in cc)
   permitted_both past rest (Giving e tail given more) w a b permit f h k =
-      let p = holds_if (member a given) permit (permit_of e) h in
-      let q = holds_if (member b given) permit (permit_of e) k in
+      let p = holds_if x (member a given) permit (permit_of e) h in
+      let q = holds_if x (member b given) permit (permit_of e) k in
       record { e = e; tail = tail; given = given; more = more; is = p.1; has = p.0; has' = q.0; order = f.3; settled = λ r. ap (Giving e tail given) r }
   permitted_both past rest (Asked e tail given c more) w a b permit f h k =
-      let p = holds_if (member a given) permit (permit_of e) (asks_if (a == c) (if member a given then Holds (permit_of e) else Away) permit h) in
-      let q = holds_if (member b given) permit (permit_of e) (asks_if (b == c) (if member b given then Holds (permit_of e) else Away) permit k) in
+      let p = holds_if x (member a given) permit (permit_of e) (asks_if (a == c) (if member a given then Holds (permit_of e) else Away) permit h) in
+      let q = holds_if x (member b given) permit (permit_of e) (asks_if (b == c) (if member b given then Holds (permit_of e) else Away) permit k) in
       record { e = e; tail = tail; given = given; more = c ∷ more; is = p.1; has = p.0; has' = q.0; order = f.3; settled = λ r. absurd (let s : c ∷ more ≡ [] = r in cc) }
   permitted_both past rest (Acted c) w a b permit f h k = absurd (says_if (a == c) permit h)
   permitted_both past rest (Told c) w a b permit f h k = absurd (hears_if (a == c) permit h)

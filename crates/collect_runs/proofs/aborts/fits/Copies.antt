@@ -48,7 +48,7 @@ use Rattle.collect_runs.specs.imitating.Settings.{IsMade}
 use Rattle.collect_runs.specs.aborts.starts.Texts.{recorder_number}
 use Rattle.collect_runs.specs.aborts.telling.Forms.{backs, ComesBack}
 use Rattle.collect_runs.proofs.aborts.fits.Fitting.{IsBeside, FitsActual, FitActuals, entry_meant, IsFitCall, IsFit}
-use Rattle.collect_runs.proofs.aborts.fits.Backs.{AreBackFor, finals-fit, IsThere, AreThere, none-stops, no-value}
+use Rattle.collect_runs.proofs.aborts.fits.Backs.{AreBackFor, finals-fit, IsThere, AreThere, none-stops}
 use Rattle.collect_runs.proofs.aborts.fits.Counts.{finals-count, entry-offered, never-finishes}
 use Rattle.collect_runs.proofs.aborts.fits.Worlds.{form_by_number, IsFitting, many-tasks, many-is, StaysTrue, stays-true, stays-fitting, within-form}
 
@@ -192,18 +192,6 @@ module _ (p : PProgram) (t : ℕ) where
     actuals-there [] es h = tt
     actuals-there (f ∷ fs) [] h = tt
     actuals-there (f ∷ fs) (e ∷ es) h = (actual-there f e h.0, actuals-there fs es h.1)
-
-  -- without values nothing stops
-  nothing-back : (σ : Task) → (copies_of σ []).stopped ≡ None
-  nothing-back σ = by_call (call_in (rest_of σ))
-    where
-      by_result : (c : PCall) (r : Result Called Raised) → (call_ended σ c r []).stopped ≡ None
-      by_result c (Ok d) = no-value (entry_parameters σ.setting d.entry) (lists_of σ.setting.numbers d.entry c.args).actuals (vars_of σ)
-      by_result c (Err x) = refl
-
-      by_call : (o : Option PCall) → (copies_at σ o []).stopped ≡ None
-      by_call None = refl
-      by_call (Some c) = by_result c (called σ.setting (vars_of σ) c)
 
   -- What fits the formals of the entry that a task calls comes back to it, and nothing stops it.
   fitting-back : (σ : Task) → σ.setting ≡ form_setting p → IsFitting p t σ → (r : Called) →

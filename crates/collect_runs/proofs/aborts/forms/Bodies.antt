@@ -1,9 +1,8 @@
 -- The bodies that the tasks of a collecting text with abort statements run.
-use Rattle.std.proofs.Common.{◌≡◌, ℕ, ℤ, ◌==◌, ◌||◌, Bool, true, false, not, if◌then◌else◌, List, [], ◌∷◌, ◌++◌, map, unwrap_or, slice_index_or, Some}
-use Rattle.std.proofs.Common.{None, refl, sym, ap, ◌∙◌, append_assoc, true≢false}
+use Rattle.std.proofs.Common.{◌≡◌, ℕ, ℤ, ◌==◌, ◌||◌, Bool, true, false, if◌then◌else◌, List, [], ◌∷◌, ◌++◌, map, unwrap_or, slice_index_or, Some}
+use Rattle.std.proofs.Common.{None, refl, ap, ◌∙◌}
 use Rattle.std.specs.List.{AllByRecursion, filter}
 use Rattle.std.proofs.lemmas.Bool.{eqb-true}
-use Rattle.common_lemmas.proofs.Lists.{all_joined, all_weaker}
 use Rattle.common_lemmas.proofs.Numbers.{equal_self}
 use Rattle.ada_tree.specs.declared.naming.NameId.{NameId}
 use Rattle.ada_tree.specs.declared.naming.Span.{Span}
@@ -11,61 +10,32 @@ use Rattle.ada_tree.specs.declared.naming.Word.{Word}
 use Rattle.ada_tree.specs.Every.{EveryDecl}
 use Rattle.ada_tree.specs.PlainStmt.{PBody}
 use Rattle.ada_tree.specs.PlainDecl.{PDecl, DNumber, DObject, DEnumeration, DArray, DSubtype, DException, DIntIo, DPragma, DTask, DTaskBody, PDecls}
-use Rattle.ada_tree.specs.PlainDecl.{no_decl, decl_then, decls_of}
+use Rattle.ada_tree.specs.PlainDecl.{no_decl, decls_of}
 use Rattle.ada_tree.specs.PlainProgram.{PProgram}
 use Rattle.syn_event.specs.DeclaredTasks.{decl_list}
 use Rattle.task_model.specs.Starting.{Unit, unit_among, unit_of, started_in, started}
-use Rattle.replay_model.specs.ReplayTree.{is_task, is_body, last_task}
+use Rattle.replay_model.specs.ReplayTree.{is_body, last_task}
 use Rattle.normal_model.specs.NormalTree.{main_unit}
-use Rattle.normal_laws.proofs.structure.units.Bodies.{IsNoBody, skip-list}
-use Rattle.normal_laws.proofs.structure.numbers.Listed.{IsPlain}
-use Rattle.replay_structure.proofs.texts.Listed.{sorted-plain}
 use Rattle.replay_structure.specs.bodies.Laws.{has_body}
 use Rattle.replay_structure.proofs.bodies.Bodies.{unit-at}
 use Rattle.normal_laws.specs.runs.forms.Normalisable.{made_for}
 use Rattle.normal_laws.specs.existence.Laws.{IsLegalOriginal}
 use Rattle.replay_runs.specs.starts.Laws.{form_in}
 use Rattle.collect_model.specs.Teller.{task_of}
-use Rattle.collect_model.specs.CollectTree.{unit_declared, behind_own, recorder_told}
+use Rattle.collect_model.specs.CollectTree.{unit_declared, behind_own}
 use Rattle.collect_model.specs.CollectNumbers.{recorder_info}
 use Rattle.collect_structure.specs.Names.{kept_name, kept_names}
 use Rattle.collect_runs.proofs.forms.Finding.{checkable}
 use Rattle.collect_model.specs.aborts.Places.{places_in}
 use Rattle.collect_model.specs.aborts.AbortTeller.{AbortTeller, told_at, told_in}
 use Rattle.collect_model.specs.aborts.AbortStmts.{task_body}
-use Rattle.collect_model.specs.aborts.AbortTree.{places_declared, abort_decl, abort_decls, objects_told, recorder_body_told}
-use Rattle.collect_structure.proofs.aborts.texts.Listed.{objects-plain}
+use Rattle.collect_model.specs.aborts.AbortTree.{places_declared, abort_decl, abort_decls, recorder_body_told}
+use Rattle.collect_structure.proofs.aborts.texts.Listed.{abort-tells, more-plain}
 use Rattle.collect_runs.specs.aborts.recorder.States.{recorder_unit, starting}
 use Rattle.collect_runs.specs.aborts.starts.Texts.{abort_text, abort_setting, recorder_number, recorder_of}
 use Rattle.collect_runs.specs.aborts.forms.Texts.{names_added}
 use Rattle.collect_runs.proofs.aborts.forms.Finding.{recorder-there, recorder-other}
-
--- ---- what is passed over
-
-plain-no-body : (d : PDecl) → IsPlain d → IsNoBody d
-plain-no-body (DTask t sp) h = tt
-plain-no-body (DTaskBody w objects its sp) h = absurd h
-plain-no-body (DNumber w e sp) h = tt
-plain-no-body (DObject ws c x i sp) h = tt
-plain-no-body (DEnumeration w ws sp) h = tt
-plain-no-body (DArray w r x sp) h = tt
-plain-no-body (DSubtype w x sp) h = tt
-plain-no-body (DException ws sp) h = tt
-plain-no-body (DIntIo w sp) h = tt
-plain-no-body (DPragma e sp) h = tt
-
-tasks-no-body : (y : AbortTeller) (names : List (List ℕ)) (ds : List PDecl) → AllByRecursion IsNoBody (map (abort_decl y names) (filter is_task ds))
-tasks-no-body y names [] = tt
-tasks-no-body y names (DTask t sp ∷ ds) = (tt, tasks-no-body y names ds)
-tasks-no-body y names (DTaskBody w objects its sp ∷ ds) = tasks-no-body y names ds
-tasks-no-body y names (DNumber w e sp ∷ ds) = tasks-no-body y names ds
-tasks-no-body y names (DObject ws c x i sp ∷ ds) = tasks-no-body y names ds
-tasks-no-body y names (DEnumeration w ws sp ∷ ds) = tasks-no-body y names ds
-tasks-no-body y names (DArray w r x sp ∷ ds) = tasks-no-body y names ds
-tasks-no-body y names (DSubtype w x sp ∷ ds) = tasks-no-body y names ds
-tasks-no-body y names (DException ws sp ∷ ds) = tasks-no-body y names ds
-tasks-no-body y names (DIntIo w sp ∷ ds) = tasks-no-body y names ds
-tasks-no-body y names (DPragma e sp ∷ ds) = tasks-no-body y names ds
+use Rattle.collect_runs.proofs.forms.Among.{among, same, other, found-among, missing-among, told-alone}
 
 -- ---- bodies
 
@@ -78,95 +48,29 @@ module _ (x : AbortTeller) (names : List (List ℕ)) (name : NameId) where
     body = task_body (told_at x (task_of x.teller.numbers name)) s u.body;
   }
 
-  -- the unit that is found among bodies that are rewritten
-  abbrev pub among : List PDecl → Unit
-  among ds = unit_among (decls_of ds) name
-
-  -- what is made of a body of another name
-  other : (w : Word) (objects : PDecls) (its : PBody) (sp : Span) (rest : List PDecl) → (w.name.0 == name.0) ≡ false → among
-      (DTaskBody w objects its sp ∷ rest) ≡ among rest
-  other w objects its sp rest e = ap (λ (b : Bool). unwrap_or (if b then Some record { in_main = false; decls = objects; body = its } else None) (among rest)) e
-
-  pub same : (w : Word) (objects : PDecls) (its : PBody) (sp : Span) (rest : List PDecl) → (w.name.0 == name.0) ≡ true → among
-      (DTaskBody w objects its sp ∷ rest) ≡ record { in_main = false; decls = objects; body = its }
-  same w objects its sp rest e = ap (λ (b : Bool). unwrap_or (if b then Some record { in_main = false; decls = objects; body = its } else None) (among rest)) e
+  told-here : (w : Word) (objects : PDecls) (its : PBody) (sp : Span) (rest : List PDecl) → (w.name.0 == name.0) ≡ true →
+      among name (abort_decl x names (DTaskBody w objects its sp) ∷ rest) ≡ told_unit w.span (record { in_main = false; decls = objects; body = its })
+  told-here w objects its sp rest e =
+      let one : w.name ≡ name = (let n : w.name.0 ≡ name.0 = eqb-true w.name.0 name.0 e in λ i. record { 0 = n i }) in
+      let objs = decls_of (behind_own names (unit_declared x.teller.added w.span ++ places_declared x w.span (places_in its)) (decl_list objects)) in
+      same name w objs (task_body (told_at x (task_of x.teller.numbers w.name)) w.span its) sp rest e
+      ∙ ap (λ (id : NameId). record { in_main = false; decls = objs; body = task_body (told_at x (task_of x.teller.numbers id)) w.span its }) one
 
   pub found : (ds : PDecls) (rest : List PDecl) → has_body (decl_list ds) name ≡ true →
-      (s : Span) × (among (map (abort_decl x names) (filter is_body (decl_list ds)) ++ rest) ≡ told_unit s (unit_among ds name))
-  found no_decl rest h = absurd (true≢false (sym h))
-  found (decl_then (DTaskBody w objects its sp) ds) rest h = by_test (w.name.0 == name.0) refl h (found ds rest)
-    where
-      by_test : (b : Bool) → (w.name.0 == name.0) ≡ b → (b || has_body (decl_list ds) name) ≡ true →
-          (has_body (decl_list ds) name ≡ true → (s : Span) × (among (map (abort_decl x names) (filter is_body (decl_list ds)) ++ rest) ≡ told_unit s
-          (unit_among ds name))) →
-          (s : Span)
-          × (among (abort_decl x names (DTaskBody w objects its sp) ∷ map (abort_decl x names) (filter is_body (decl_list ds)) ++ rest)
-          ≡ told_unit s (unwrap_or (if w.name.0 == name.0 then Some record { in_main = false; decls = objects; body = its } else None) (unit_among ds name)))
-      by_test true e any later =
-          let one : w.name ≡ name = (let n : w.name.0 ≡ name.0 = eqb-true w.name.0 name.0 e in λ i. record { 0 = n i }) in
-          let objs = decls_of (behind_own names (unit_declared x.teller.added w.span ++ places_declared x w.span (places_in its)) (decl_list objects)) in (
-            w.span,
-            same w objs (task_body (told_at x (task_of x.teller.numbers w.name)) w.span its) sp (map (abort_decl x names) (filter is_body
-                (decl_list ds)) ++ rest) e
-                ∙ ap (λ (id : NameId). record { in_main = false; decls = objs; body = task_body (told_at x (task_of x.teller.numbers id)) w.span its }) one
-                ∙ ap (λ (b : Bool). told_unit w.span (unwrap_or (if b then Some record { in_main = false; decls = objects; body = its } else None)
-                (unit_among ds name))) (sym e),
-          )
-      by_test false e any later =
-          let rest_found = later any in (
-            rest_found.0,
-            other w _ _ sp (map (abort_decl x names) (filter is_body (decl_list ds)) ++ rest) e
-                ∙ rest_found.1
-                ∙ ap (λ (b : Bool). told_unit rest_found.0 (unwrap_or
-                (if b then Some record { in_main = false; decls = objects; body = its } else None) (unit_among ds name))) (sym e),
-          )
-  found (decl_then (DTask t sp) ds) rest h = found ds rest h
-  found (decl_then (DNumber w e sp) ds) rest h = found ds rest h
-  found (decl_then (DObject ws c x i sp) ds) rest h = found ds rest h
-  found (decl_then (DEnumeration w ws sp) ds) rest h = found ds rest h
-  found (decl_then (DArray w r x sp) ds) rest h = found ds rest h
-  found (decl_then (DSubtype w x sp) ds) rest h = found ds rest h
-  found (decl_then (DException ws sp) ds) rest h = found ds rest h
-  found (decl_then (DIntIo w sp) ds) rest h = found ds rest h
-  found (decl_then (DPragma e sp) ds) rest h = found ds rest h
+      (s : Span) × (among name (map (abort_decl x names) (filter is_body (decl_list ds)) ++ rest) ≡ told_unit s (unit_among ds name))
+  found = found-among (abort_decl x names) told_unit name told-here (λ w objects its sp rest e. other name w _ _ sp rest e)
 
   -- where there is none, what stands behind is found
-  pub missing : (ds : List PDecl) (rest : List PDecl) → has_body ds name ≡ false → among (map (abort_decl x names) (filter is_body ds) ++ rest) ≡ among rest
-  missing [] rest h = refl
-  missing (DTaskBody w objects its sp ∷ ds) rest h = by_test (w.name.0 == name.0) refl h (missing ds rest)
-    where
-      by_test : (b : Bool) → (w.name.0 == name.0) ≡ b → (b || has_body ds name) ≡ false → (has_body ds name ≡ false → among (map (abort_decl x names)
-          (filter is_body ds) ++ rest) ≡ among rest) →
-          among (abort_decl x names (DTaskBody w objects its sp) ∷ map (abort_decl x names) (filter is_body ds) ++ rest) ≡ among rest
-      by_test true e none later = absurd (true≢false none)
-      by_test false e none later = other w _ _ sp (map (abort_decl x names) (filter is_body ds) ++ rest) e ∙ later none
-  missing (DTask t sp ∷ ds) rest h = missing ds rest h
-  missing (DNumber w e sp ∷ ds) rest h = missing ds rest h
-  missing (DObject ws c x i sp ∷ ds) rest h = missing ds rest h
-  missing (DEnumeration w ws sp ∷ ds) rest h = missing ds rest h
-  missing (DArray w r x sp ∷ ds) rest h = missing ds rest h
-  missing (DSubtype w x sp ∷ ds) rest h = missing ds rest h
-  missing (DException ws sp ∷ ds) rest h = missing ds rest h
-  missing (DIntIo w sp ∷ ds) rest h = missing ds rest h
-  missing (DPragma e sp ∷ ds) rest h = missing ds rest h
+  missing : (ds : List PDecl) (rest : List PDecl) → has_body ds name ≡ false → among name (map (abort_decl x names) (filter is_body ds) ++ rest) ≡ among name rest
+  missing = missing-among (abort_decl x names) told_unit name told-here (λ w objects its sp rest e. other name w _ _ sp rest e)
 
 -- only the bodies are looked at
 pub bodies-alone : (x : AbortTeller) (q : PProgram) (name : NameId) →
     unit_among (decls_of (abort_decls x q (decl_list q.decls))) name ≡ unit_among (decls_of (map (abort_decl x q.names) (filter is_body
     (decl_list q.decls)) ++ (recorder_body_told x q ∷ []))) name
 bodies-alone x q name =
-    let ds = decl_list q.decls in
-    let plain = filter (λ d. not (is_task d || is_body d)) ds in
-    let first = objects_told x q plain in
-    let tasks = map (abort_decl x q.names) (filter is_task ds) in
-    let recorder = recorder_told x.teller q ∷ [] in
-    let bodies = map (abort_decl x q.names) (filter is_body ds) in
-    let last = recorder_body_told x q ∷ [] in
-    ap (λ l. unit_among (decls_of l) name) (append_assoc (first ++ tasks ++ recorder) bodies last)
-    ∙ skip-list (first ++ tasks ++ recorder) (bodies ++ last) name
-    (all_joined IsNoBody (first ++ tasks) recorder
-    (all_joined IsNoBody first tasks (all_weaker IsPlain IsNoBody first plain-no-body (objects-plain x q plain (sorted-plain ds))) (tasks-no-body x q.names ds))
-    (tt, tt))
+    told-alone x.teller.added (abort_decl x q.names) (abort-tells x q.names) q _ (recorder_body_told x q) name
+    (more-plain x q.name.span _ (last_task x.teller.numbers) (places_in q.body))
 
 -- no body that has a kept name has the recorder's
 none-records : (q : PProgram) (rec : NameId) → ((id : NameId) → kept_name q id.0 ≡ true → (id.0 == rec.0) ≡ false) → (ds : List PDecl) →

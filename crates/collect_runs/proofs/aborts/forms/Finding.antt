@@ -1,12 +1,11 @@
 -- What names of the recorder and of its entry are found as in the collecting text with abort statements of a legal program, and which formals its entries have.
-use Rattle.std.proofs.Common.{◌≡◌, ◌==◌, ◌+◌, arith, Bool, true, false, cond, List, [], ◌∷◌, ◌++◌, map, length, find, slice_get, unwrap_or, Some}
+use Rattle.std.proofs.Common.{◌≡◌, ◌==◌, ◌+◌, arith, Bool, true, false, cond, List, [], ◌∷◌, ◌++◌, map, length, find, unwrap_or, Some}
 use Rattle.std.proofs.Common.{None, refl, sym, ap, subst, ◌∙◌}
 use Rattle.std.specs.List.{AllByRecursion}
 use Rattle.common_lemmas.proofs.Numbers.{equal_self}
 use Rattle.ada_tree.specs.declared.naming.NameId.{NameId}
 use Rattle.ada_tree.specs.TypeTable.{TypeTable}
-use Rattle.ada_tree.specs.Every.{EveryDecl}
-use Rattle.ada_tree.specs.PlainDecl.{PEntry, PTask, PDecl, DNumber, DObject, DEnumeration, DArray, DSubtype, DException, DIntIo, DPragma, DTask, DTaskBody}
+use Rattle.ada_tree.specs.PlainDecl.{PEntry, PTask}
 use Rattle.ada_tree.specs.PlainProgram.{PProgram}
 use Rattle.ada_static_rules.specs.StaticValue.{is_named}
 use Rattle.ada_static_rules.specs.Declaring.{predefined_types, first_scope}
@@ -32,49 +31,24 @@ use Rattle.collect_model.specs.Names.{recorder_text}
 use Rattle.collect_model.specs.Recording.{note_formals}
 use Rattle.collect_model.specs.CollectTree.{task_telling}
 use Rattle.collect_model.specs.CollectNumbers.{recorder_info, note_info}
-use Rattle.collect_structure.specs.Names.{added_id, kept_name, kept_names}
+use Rattle.collect_structure.specs.Names.{added_id, kept_name}
 use Rattle.collect_structure.proofs.checked.Names.{kept-other}
 use Rattle.collect_runs.specs.telling.Texts.{CanTell as CanTellPlainly}
-use Rattle.collect_runs.specs.starts.Texts.{texts_of as plain_texts, text_setting as plain_setting}
-use Rattle.collect_runs.proofs.forms.Tables.{kept_for}
-use Rattle.collect_runs.proofs.forms.Finding.{checkable, legal_can_tell as plain_can_tell}
+use Rattle.collect_runs.specs.starts.Texts.{text_setting as plain_setting}
+use Rattle.collect_runs.proofs.forms.Finding.{find-past, legal_can_tell as plain_can_tell, named}
 use Rattle.collect_model.specs.aborts.AbortTeller.{AbortTeller, told_in}
 use Rattle.collect_model.specs.aborts.AbortTree.{abort_decls}
-use Rattle.collect_structure.proofs.aborts.texts.Listed.{recorder_tasks, abort-tasks}
+use Rattle.collect_structure.proofs.aborts.texts.Listed.{abort-tasks}
+use Rattle.collect_structure.proofs.texts.Telling.{recorder_tasks}
 use Rattle.collect_structure.proofs.aborts.typed.Names.{same-added}
 use Rattle.collect_runs.specs.aborts.starts.Texts.{abort_text, abort_setting, recorder_number, note_number}
 use Rattle.collect_runs.specs.aborts.telling.Texts.{plain, CanTell}
 use Rattle.collect_runs.specs.aborts.forms.Texts.{names_added, names_kept, texts_of}
 use Rattle.collect_runs.proofs.aborts.forms.Numbers.{same_added, same_numbers}
 use Rattle.collect_runs.proofs.aborts.forms.Tables.{AreCounted, names_are_added, few-places, places_are_added, types_agree}
-
--- what stands last
-there-last : {A : Type 0} (xs : List A) (y : A) → slice_get (xs ++ y ∷ []) (length xs) ≡ Some y
-there-last [] y = refl
-there-last (x ∷ xs) y = there-last xs y
-
--- ---- tasks with kept names
-
-module _ (q : PProgram) where
-  tasks-kept : (ds : List PDecl) → AllByRecursion (EveryDecl (kept_names q)) ds → AllByRecursion (λ (t : PTask). kept_name q t.name.name.0 ≡ true) (tasks_in ds)
-  tasks-kept [] h = tt
-  tasks-kept (DTask t s ∷ ds) h = (h.0.1.0, tasks-kept ds h.1)
-  tasks-kept (DTaskBody w objects its s ∷ ds) h = tasks-kept ds h.1
-  tasks-kept (DNumber w e s ∷ ds) h = tasks-kept ds h.1
-  tasks-kept (DObject ws c x i s ∷ ds) h = tasks-kept ds h.1
-  tasks-kept (DEnumeration w ws s ∷ ds) h = tasks-kept ds h.1
-  tasks-kept (DArray w r x s ∷ ds) h = tasks-kept ds h.1
-  tasks-kept (DSubtype w x s ∷ ds) h = tasks-kept ds h.1
-  tasks-kept (DException ws s ∷ ds) h = tasks-kept ds h.1
-  tasks-kept (DIntIo w s ∷ ds) h = tasks-kept ds h.1
-  tasks-kept (DPragma e s ∷ ds) h = tasks-kept ds h.1
+use Rattle.common_lemmas.proofs.Lists.{last_at}
 
 -- ---- the recorder and its entry
-
--- what is found behind others that do not pass
-find-past : {A : Type 0} (test : A → Bool) (xs ys : List A) → AllByRecursion (λ x. test x ≡ false) xs → find test (xs ++ ys) ≡ find test ys
-find-past test [] ys h = refl
-find-past test (x ∷ xs) ys h = ap (λ c. cond c (Some x) (find test (xs ++ ys))) h.0 ∙ find-past test xs ys h.1
 
 module _ (p : PProgram) (h : IsLegalOriginal p) where
   abbrev q : PProgram
@@ -95,35 +69,28 @@ module _ (p : PProgram) (h : IsLegalOriginal p) where
   abbrev x : AbortTeller
   x = told_in (main_unit (form_in p))
 
-  -- what is so of a collecting text without abort statements
-  plainly : CanTellPlainly (plain_texts p (kept_for p))
-  plainly = plain_can_tell p h
-
   pub recorder-there : task_at U.numbers (recorder_number p) ≡ Some (recorder_info (names_added p))
-  recorder-there = there-last F.tasks (recorder_info (names_added p))
+  recorder-there = last_at F.tasks (recorder_info (names_added p))
 
   recorder-at : task_at U.numbers (last_task F + 1) ≡ Some (recorder_info (names_added p))
   recorder-at = ap (task_at U.numbers) (let e : last_task F + 1 ≡ recorder_number p = omega arith in e) ∙ recorder-there
 
   note-at : entry_at U.numbers (note_number p) ≡ Some (note_info (names_added p) (last_task F))
-  note-at = entry-suc U.numbers (length F.entries) ∙ there-last F.entries (note_info (names_added p) (last_task F))
+  note-at = entry-suc U.numbers (length F.entries) ∙ last_at F.entries (note_info (names_added p) (last_task F))
 
   recorder-found : unwrap_or (task_named U.numbers n.recorder) 0 ≡ recorder_number p
   recorder-found =
       ap (λ (m : Numbering). unwrap_or (task_named m n.recorder) 0) (same_numbers p)
       ∙ ap (λ (a : AddedNames). unwrap_or (task_named (plain_setting p).numbers a.recorder) 0) (same_added p)
-      ∙ plainly.recorder
+      ∙ (plain_can_tell p h).recorder
 
   note-found : entry_of U.numbers (recorder_number p) n.note ≡ note_number p
   note-found =
       ap (λ (m : Numbering). entry_of m (recorder_number p) n.note) (same_numbers p)
       ∙ ap (λ (a : AddedNames). entry_of (plain_setting p).numbers (recorder_number p) a.note) (same_added p)
-      ∙ plainly.note
+      ∙ (plain_can_tell p h).note
 
   -- ---- the tasks of the text
-
-  named : AllByRecursion (λ (t : PTask). kept_name q t.name.name.0 ≡ true) (tasks_of q)
-  named = tasks-kept q (decl_list q.decls) (checkable p h).declared
 
   recorder-is : n.recorder ≡ added_id q recorder_text
   recorder-is = same-added q recorder_text refl
@@ -136,13 +103,13 @@ module _ (p : PProgram) (h : IsLegalOriginal p) where
   told-other [] k = tt
   told-other (t ∷ ts) k = (recorder-other t.name.name k.0, told-other ts k.1)
 
-  pub text-tasks : tasks_of (abort_text p) ≡ map (task_telling n) (tasks_of q) ++ recorder_tasks x q
+  pub text-tasks : tasks_of (abort_text p) ≡ map (task_telling n) (tasks_of q) ++ recorder_tasks n q
   text-tasks = ap tasks_in (listed_back (abort_decls x q (decl_list q.decls))) ∙ abort-tasks x q
 
-  recorder-unit : unit_named (abort_text p) n.recorder ≡ find (λ (t : PTask). t.name.name.0 == n.recorder.0) (recorder_tasks x q)
+  recorder-unit : unit_named (abort_text p) n.recorder ≡ find (λ (t : PTask). t.name.name.0 == n.recorder.0) (recorder_tasks n q)
   recorder-unit =
       ap (find (λ (t : PTask). t.name.name.0 == n.recorder.0)) text-tasks
-      ∙ find-past (λ (t : PTask). t.name.name.0 == n.recorder.0) (map (task_telling n) (tasks_of q)) (recorder_tasks x q) (told-other (tasks_of q) named)
+      ∙ find-past (λ (t : PTask). t.name.name.0 == n.recorder.0) (map (task_telling n) (tasks_of q)) (recorder_tasks n q) (told-other (tasks_of q) (named p h))
 
   -- the recorder's declaration
   abbrev note_entry : PEntry

@@ -1,8 +1,7 @@
 -- The tasks of a legal program evaluate calls and accepts alike in the normal form and in its collecting text with abort statements.
-use Rattle.std.proofs.Common.{◌≡◌, ◌==◌, ◌+◌, ◌&&◌, arith, ℕ, ℤ, pos, Bool, true, false, if◌then◌else◌, List, [], ◌∷◌, ◌++◌, length, unwrap_or}
+use Rattle.std.proofs.Common.{◌≡◌, ◌==◌, ◌+◌, ◌&&◌, arith, ℕ, ℤ, pos, Bool, true, false, List, [], ◌∷◌, ◌++◌, unwrap_or}
 use Rattle.std.proofs.Common.{Option, Some, None, option_map, Result, Ok, Err, refl, sym, ap, subst, ◌∙◌, true≢false}
 use Rattle.std.specs.List.{position}
-use Rattle.ada_static_rules.proofs.found_twice.FirstOfTwo.{position_push}
 use Rattle.std.proofs.lemmas.Option.{none-some}
 use Rattle.event_machine.specs.declared.CallForm.{CallForm}
 use Rattle.ada_tree.specs.declared.naming.NameId.{NameId}
@@ -10,13 +9,11 @@ use Rattle.ada_tree.specs.declared.naming.Span.{Span}
 use Rattle.ada_tree.specs.PlainExpr.{PExpr}
 use Rattle.ada_tree.specs.PlainStmt.{PArgs, PCall, PHead}
 use Rattle.ada_tree.specs.PlainProgram.{PProgram}
-use Rattle.ada_static_rules.specs.StaticValue.{first_of_two}
 use Rattle.ada_value.proofs.StaticLaws.{natural_integer}
 use Rattle.ada_value.specs.declared.values.Value.{Value}
 use Rattle.ada_value.specs.declared.values.Value.TheVariants.{Number}
 use Rattle.ada_value.specs.declared.values.Raised.{Raised}
-use Rattle.ada_value.specs.declared.values.Raised.TheVariants as raised
-use Rattle.ada_value.specs.Values.{and_then, position_of, lies_in}
+use Rattle.ada_value.specs.Values.{and_then, position_of}
 use Rattle.ada_value.specs.Variables.{Variables}
 use Rattle.ada_value.specs.Evaluating.{evaluated}
 use Rattle.syn_event.specs.declared.numbering.TaskInfo.{TaskInfo}
@@ -28,7 +25,6 @@ use Rattle.task_model.specs.Setting.{entry_parameters, Lists, lists_in, lists_of
 use Rattle.task_model.specs.Tasks.{Task, vars_of}
 use Rattle.task_model.specs.Calls.{Called, called, called_with, openings, opened_objects, copied_back}
 use Rattle.task_model.specs.Stands.{call_stand, steps_at}
-use Rattle.task_laws.proofs.invariants.Variables.{ok_path}
 use Rattle.task_laws.specs.translation.Translations.{Programs}
 use Rattle.task_laws.specs.translation.Scopes.{SeeAlike}
 use Rattle.task_laws.specs.statements.variables.Held.{AreInner}
@@ -47,7 +43,6 @@ use Rattle.replay_runs.specs.controls.meanings.Pairs.{IsOfForm}
 use Rattle.replay_runs.proofs.controls.meanings.Aborts.{callee_found}
 use Rattle.replay_runs.proofs.controls.meanings.Naming.{owner-below}
 use Rattle.replay_runs.proofs.controls.meanings.Accepting.{entry-there}
-use Rattle.replay_runs.proofs.controls.meanings.Indices.{checked_index, member_checked}
 use Rattle.replay_runs.proofs.controls.meanings.Called.{OldLists, lists_old, opens_alike}
 use Rattle.collect_model.specs.Teller.{Teller}
 use Rattle.collect_model.specs.Noting.{own_number}
@@ -61,12 +56,8 @@ use Rattle.collect_runs.specs.aborts.starts.Texts.{abort_setting}
 use Rattle.collect_runs.specs.aborts.forms.Texts.{names_added, texts_of}
 use Rattle.collect_runs.specs.aborts.forms.Laws.{IsTold}
 use Rattle.collect_runs.proofs.aborts.forms.Numbers.{entry-stays}
-use Rattle.collect_runs.proofs.aborts.forms.Members.{index-of, index-after, index-inside}
-
--- ---- what is found in front of one more
-
-found-front : {A : Type 0} (test : A → Bool) (xs : List A) (a : A) (k : ℕ) → position test xs ≡ Some k → position test (xs ++ a ∷ []) ≡ Some k
-found-front test xs a k h = position_push test xs a ∙ ap (λ o. first_of_two o (if test a then Some (length xs) else None)) h
+use Rattle.collect_runs.proofs.forms.Members.{index-of, index-after, index-inside}
+use Rattle.collect_runs.proofs.forms.Forming.{found-front, lists-alike, member-worth}
 
 -- ---- lists and members
 
@@ -87,23 +78,6 @@ lists-told numbers e own (Some args) = go (is_family numbers e)
     go : (d : Bool) → lists_in d (args_with d own (Some args)) ≡ record { index = (lists_in d args).index; actuals = own ∷ (lists_in d args).actuals }
     go true = refl
     go false = refl
-
--- a call is told by its lists alone, where it is a family's in both numberings or in none
-lists-alike : (numbers more : Numbering) (e : ℕ) (args : Option PArgs) → is_family more e ≡ is_family numbers e → lists_of more e args ≡ lists_of numbers e args
-lists-alike numbers more e None same = refl
-lists-alike numbers more e (Some args) same = ap (λ d. lists_in d args) same
-
--- where the index is worth a member of the entry, that is its number
-member-worth : (g : Setting) (V : Variables) (e : ℕ) (o : Option PExpr) (z y : ℤ) → IndexIs g.types V o z → member_index g V e o ≡ Ok y → z ≡ y
-member-worth g V e o z y is worth = go o (sym (member_checked g V e o z is) ∙ worth)
-  where
-    by_test : (c : Bool) → (if c then Ok z else Err raised.Constraint) ≡ Ok y → z ≡ y
-    by_test true q = ok_path q
-    by_test false q = cc
-
-    go : (o : Option PExpr) → checked_index (family_limits (entry_at g.numbers e)) o z ≡ Ok y → z ≡ y
-    go None q = ok_path q
-    go (Some d) q = by_test (lies_in (family_limits (entry_at g.numbers e)) z) q
 
 -- ---- a program
 
@@ -233,7 +207,8 @@ module _ (p : PProgram) (kept : ℕ → Bool) (h : IsLegalOriginal p) (text : Is
               (literal U.types W t s fits) fits o.0);
           known = o.1;
           number = entry-is;
-          member = λ s. member-is s y (index-after p kept h text.can.plainly see old-lists.index (subst (IndexIs F.types V lists.index) worth is));
+          member = λ s. member-is s y (index-after p (abort_setting p) kept h (names_added p).caller
+              text.can.plainly.types text.can.plainly.names.caller see old-lists.index (subst (IndexIs F.types V lists.index) worth is));
           owner = refl;
           entry_fits = natural_integer e formed.entry.fits;
           owner_fits = owner-fits;
@@ -251,7 +226,8 @@ module _ (p : PProgram) (kept : ℕ → Bool) (h : IsLegalOriginal p) (text : Is
       let V : Variables = vars_of σ in
       let here : entry_of F.numbers t d.entry.name ≡ e = ap (λ o. unwrap_or o 0) formed.entry.found in
       let there : entry_of U.numbers t d.entry.name ≡ e = ap (λ o. unwrap_or o 0) (entry-named-there t d.entry.name e formed.entry.found) in
-      let worth = index-of p kept h text.can.plainly t σ is see e old.index formed.index in
+      let worth = index-of p (abort_setting p) kept h (names_added p).caller
+      text.can.plainly.types text.can.plainly.names.caller t σ is see e old.index formed.index in
       record {
         entry = there ∙ sym here;
         number = refl;
@@ -262,6 +238,7 @@ module _ (p : PProgram) (kept : ℕ → Bool) (h : IsLegalOriginal p) (text : Is
             let same : worth.0 ≡ z = member-worth F V (entry_of F.numbers t d.entry.name) d.index worth.0 z worth.1 q in
             member-told U.types (own ∷ (opened_objects U.types (parameters_of U.types d.formals) vs ++ W)) (form_in p) s
             (entry_of F.numbers t d.entry.name) d.index z
-            (index-inside p kept h text.can.plainly t is.there see d.formals old.formals inner own named vs e old.index formed.index (subst
+            (index-inside p (abort_setting p) kept h (names_added p).caller
+            text.can.plainly.types text.can.plainly.names.caller t is.there see d.formals old.formals inner own named vs e old.index formed.index (subst
             (IndexIs F.types V d.index) same worth.1));
       }

@@ -27,14 +27,15 @@ use Rattle.collect_runs.specs.telling.Forms.{Form as PlainForm, StaysSo}
 use Rattle.collect_runs.proofs.forms.Forming.{call-formed, head-formed, call-rests}
 use Rattle.collect_runs.specs.aborts.telling.Texts.{plain, IsCalleeAlike}
 use Rattle.collect_runs.specs.aborts.telling.Forms.{Form, GoAlike}
-use Rattle.collect_runs.specs.aborts.forms.Texts.{texts_of}
+use Rattle.collect_runs.specs.aborts.forms.Texts.{texts_of, names_added}
 use Rattle.collect_runs.specs.aborts.forms.Tasks.{HasFewParts, HasLikeness, IsOfText, AreAlike}
 use Rattle.collect_runs.specs.aborts.forms.Laws.{IsTold}
 use Rattle.collect_runs.proofs.aborts.likeness.Chains.{Chain, chain_one, chain_more, chain-through, chain-goes}
-use Rattle.collect_runs.proofs.aborts.forms.Members.{index-of}
+use Rattle.collect_runs.proofs.forms.Members.{index-of}
 use Rattle.collect_runs.proofs.aborts.forms.Forming.{called-here, call-alike, head-alike}
 use Rattle.collect_runs.proofs.aborts.forms.Waits.{few-stays}
 use Rattle.collect_runs.proofs.aborts.forms.Lost.{with-lost}
+use Rattle.collect_runs.specs.aborts.starts.Texts.{abort_setting}
 
 module _ (p : PProgram) (kept : ℕ → Bool) (h : IsLegalOriginal p) (text : IsTold p kept) (l : HasLikeness p) where
   abbrev F : Setting
@@ -88,7 +89,8 @@ module _ (p : PProgram) (kept : ℕ → Bool) (h : IsLegalOriginal p) (text : Is
         let formed = call-formed p t _ a.top.rest own.formed.rest c e in
         let r = call-rests p t [] F t i w a c e rests in
         let lists = lists_of F.numbers formed.entry.entry c.args in
-        let index = index-of p kept h text.can.plainly t (task_in F t i w a) own see formed.entry.entry
+        let index = index-of p (abort_setting p) kept h (names_added p).caller
+        text.can.plainly.types text.can.plainly.names.caller t (task_in F t i w a) own see formed.entry.entry
         (lists_old F.numbers formed.entry.entry old.args).index formed.index in
         call-alike p kept h text t (task-fits t _ is) c formed old a.vars W see index.0 index.1 (member_index F a.vars formed.entry.entry lists.index) refl
         (openings F.types a.vars (entry_parameters F formed.entry.entry) lists.actuals) refl r.0

@@ -1,6 +1,6 @@
 -- The tasks of a legal program's collecting text with abort statements start beside those of its normal form.
 use Rattle.std.proofs.Common.{◌≡◌, ◌==◌, ◌≤◌, ℕ, ℤ, zero, suc, Bool, true, false, not, ◌||◌, if◌then◌else◌, cond, List, [], ◌∷◌, ◌++◌, map, is_some}
-use Rattle.std.proofs.Common.{slice_index_or, unwrap_or, Option, Some, None, inl, refl, sym, ap, ap₂, ◌∙◌, subst, true≢false, append_assoc, arith}
+use Rattle.std.proofs.Common.{slice_index_or, Option, Some, None, inl, refl, sym, ap, ap₂, ◌∙◌, subst, true≢false, append_assoc, arith}
 use Rattle.std.specs.List.{AllByRecursion, filter, list_any}
 use Rattle.std.proofs.lemmas.Bool.{eqb-true, ne_eqb}
 use Rattle.common_lemmas.proofs.Lists.{all_back, all_front, all_weaker}
@@ -13,9 +13,9 @@ use Rattle.ada_tree.specs.TypeTable.{TypeTable}
 use Rattle.ada_tree.specs.PlainExpr.{EInteger}
 use Rattle.ada_tree.specs.PlainStmt.{PBody}
 use Rattle.ada_tree.specs.PlainDecl.{IOne, OPlain, PDecl, DNumber, DObject, DEnumeration, DArray, DSubtype, DException, DIntIo, DPragma, DTask}
-use Rattle.ada_tree.specs.PlainDecl.{DTaskBody, PDecls, no_decl, decl_then, decls_of}
+use Rattle.ada_tree.specs.PlainDecl.{DTaskBody, PDecls, decls_of}
 use Rattle.ada_tree.specs.PlainProgram.{PProgram}
-use Rattle.ada_tree.specs.Every.{Rules, EveryDecl, EveryDecls}
+use Rattle.ada_tree.specs.Every.{Rules, EveryDecl}
 use Rattle.ada_static_rules.specs.Refusals.{types_in}
 use Rattle.ada_static_rules.specs.Declaring.{predefined_types, first_scope}
 use Rattle.ada_static_rules.specs.StaticValue.{mark_named, is_named}
@@ -26,11 +26,11 @@ use Rattle.ada_value.specs.Variables.{Object, Variables, object_named}
 use Rattle.syn_event.specs.declared.numbering.TaskInfo.{TaskInfo}
 use Rattle.syn_event.specs.Numbering.{Numbering, task_at}
 use Rattle.syn_event.specs.DeclaredTasks.{decl_list}
-use Rattle.syn_event.proofs.DeclLists.{list_again}
+use Rattle.syn_event.proofs.DeclLists.{list_again, every_listed}
 use Rattle.task_model.specs.Frames.{OwnBody, control}
 use Rattle.task_model.specs.Tasks.{vars_of}
 use Rattle.task_model.specs.Steps.{block_stmts, block_handlers}
-use Rattle.task_model.specs.Starting.{Unit, unit_of, unit_among, form_of, initial, declared_objects, after_declaration, objects_of, started, started_in}
+use Rattle.task_model.specs.Starting.{Unit, unit_of, unit_among, form_of, initial, declared_objects, objects_of, started, started_in}
 use Rattle.task_laws.specs.translation.Translations.{Programs}
 use Rattle.task_laws.specs.translation.Controls.{task_in}
 use Rattle.task_laws.specs.translation.OldTexts.{only_names, OldBody}
@@ -45,12 +45,12 @@ use Rattle.normal_laws.specs.runs.floors.NormalFloors.{Extends, extends_new}
 use Rattle.normal_laws.specs.runs.floors.Preludes.{cell}
 use Rattle.normal_laws.specs.runs.forms.Normalisable.{made_for, IsPlain}
 use Rattle.normal_laws.specs.existence.Laws.{IsLegalOriginal}
-use Rattle.replay_model.specs.ReplayTree.{is_added_object, is_task, is_body, last_task}
+use Rattle.replay_model.specs.ReplayTree.{is_task, is_body, last_task}
 use Rattle.replay_structure.proofs.bodies.Bodies.{unit-at}
 use Rattle.replay_runs.specs.starts.Laws.{own_part, added_part, objects_in, form_in, start_before}
 use Rattle.replay_runs.specs.starts.Formals.{form_setting}
 use Rattle.replay_runs.proofs.starts.Objects.{objects-behind}
-use Rattle.replay_runs.proofs.starts.Programs.{InBody, in-unit}
+use Rattle.replay_runs.proofs.starts.Programs.{in-unit, all-added}
 use Rattle.replay_runs.proofs.starts.Tables.{integer_is_there, IsOldDecl, objects-alike}
 use Rattle.replay_runs.proofs.controls.translated.Objects.{beside-main}
 use Rattle.collect_model.specs.declared.AddedNames.{AddedNames}
@@ -59,8 +59,8 @@ use Rattle.collect_model.specs.Noting.{number}
 use Rattle.collect_model.specs.Recording.{truth}
 use Rattle.collect_model.specs.CollectTree.{unit_declared, behind_own, main_declared, is_int_io, recorder_told}
 use Rattle.collect_runs.specs.translation.Floors.{HasVariables}
-use Rattle.collect_runs.proofs.forms.Objects.{extends-over, extends-same}
-use Rattle.collect_runs.proofs.forms.Starting.{all-passed}
+use Rattle.collect_runs.proofs.forms.Objects.{extends-over, extends-same, named, start-plain}
+use Rattle.collect_runs.proofs.forms.Starting.{all-passed, all-own, in-turn, parted, put, passed-over, plain-listed, bodies-listed, none-in-main}
 use Rattle.collect_model.specs.aborts.Places.{places_in, most_places}
 use Rattle.collect_model.specs.aborts.AbortTeller.{AbortTeller, told_at, told_in}
 use Rattle.collect_model.specs.aborts.AbortStmts.{main_body, task_body}
@@ -72,83 +72,16 @@ use Rattle.collect_runs.specs.aborts.telling.Texts.{teller}
 use Rattle.collect_runs.specs.aborts.forms.Texts.{names_added, names_kept, texts_of}
 use Rattle.collect_runs.specs.aborts.forms.Laws.{StartsWithPlaces}
 use Rattle.collect_runs.proofs.aborts.translation.Carried.{abort_starts}
-use Rattle.collect_runs.proofs.aborts.forms.Tables.{AreCounted, agrees, names_are_added, places_are_added, few-places, types_agree}
-use Rattle.collect_runs.proofs.aborts.forms.Old.{bodies-old}
-use Rattle.collect_runs.proofs.aborts.forms.Objects.{named, objects-plain, objects-old}
+use Rattle.collect_runs.proofs.aborts.forms.Tables.{AreCounted, agrees, names_are_added, places_are_added, few-places, types_agree, values}
+use Rattle.collect_runs.proofs.aborts.forms.Old.{names-stay}
+use Rattle.collect_runs.proofs.forms.Old.{only-old}
 use Rattle.collect_runs.proofs.aborts.forms.Bodies.{told_unit}
 use Rattle.collect_runs.proofs.aborts.forms.Units.{legal_runs_told}
 use Rattle.collect_runs.proofs.aborts.forms.Places.{place_cells, extends-places, passed-places, taken-found, refused-found}
 
 -- ---- declarations among others
 
-module _ (P : PDecl → Type 0) (names : List (List ℕ)) where
-  all-own : (ds : List PDecl) → AllByRecursion P ds → AllByRecursion P (own_part names ds)
-  all-own [] h = tt
-  all-own (d ∷ ds) h = by_test (is_added_object names d) (all-own ds h.1)
-    where
-      by_test : (b : Bool) → AllByRecursion P (own_part names ds) → AllByRecursion P (if b then [] else d ∷ own_part names ds)
-      by_test true k = tt
-      by_test false k = (h.0, k)
-
-  all-added : (ds : List PDecl) → AllByRecursion P ds → AllByRecursion P (added_part names ds)
-  all-added [] h = tt
-  all-added (d ∷ ds) h = by_test (is_added_object names d) (all-added ds h.1)
-    where
-      by_test : (b : Bool) → AllByRecursion P (added_part names ds) → AllByRecursion P (if b then d ∷ ds else added_part names ds)
-      by_test true k = h
-      by_test false k = k
-
 module _ (T : TypeTable) (in_main : Bool) where
-  in-turn : (xs ys : List PDecl) (V : Variables) → objects_of T in_main (decls_of (xs ++ ys)) V ≡ objects_of T in_main (decls_of ys)
-      (objects_of T in_main (decls_of xs) V)
-  in-turn [] ys V = refl
-  in-turn (d ∷ xs) ys V = in-turn xs ys (after_declaration T in_main d V)
-
-  parted : (names : List (List ℕ)) (ds : List PDecl) (V : Variables) →
-      objects_of T in_main (decls_of ds) V ≡ objects_of T in_main (decls_of (added_part names ds)) (objects_of T in_main (decls_of (own_part names ds)) V)
-  parted names [] V = refl
-  parted names (d ∷ ds) V = by_test (is_added_object names d) (parted names ds (after_declaration T in_main d V))
-    where
-      by_test : (b : Bool) →
-          objects_of T in_main (decls_of ds) (after_declaration T in_main d V) ≡ objects_of T in_main (decls_of (added_part names ds))
-          (objects_of T in_main (decls_of (own_part names ds)) (after_declaration T in_main d V)) →
-          objects_of T in_main (decls_of ds) (after_declaration T in_main d V)
-          ≡ objects_of T in_main (decls_of (if b then d ∷ ds else added_part names ds)) (objects_of T in_main (decls_of
-          (if b then [] else d ∷ own_part names ds)) V)
-      by_test true e = refl
-      by_test false e = e
-
-  put : (names : List (List ℕ)) (es ds : List PDecl) (V : Variables) →
-      objects_of T in_main (decls_of (behind_own names es ds)) V
-      ≡ objects_of T in_main (decls_of (added_part names ds)) (objects_of T in_main (decls_of es) (objects_of T in_main (decls_of (own_part names ds)) V))
-  put names es [] V = refl
-  put names es (d ∷ ds) V = by_test (is_added_object names d) (put names es ds (after_declaration T in_main d V))
-    where
-      by_test : (b : Bool) →
-          objects_of T in_main (decls_of (behind_own names es ds)) (after_declaration T in_main d V)
-          ≡ objects_of T in_main (decls_of (added_part names ds)) (objects_of T in_main (decls_of es) (objects_of T in_main (decls_of
-          (own_part names ds)) (after_declaration T in_main d V))) →
-          objects_of T in_main (decls_of (if b then es ++ d ∷ ds else d ∷ behind_own names es ds)) V
-          ≡ objects_of T in_main (decls_of (if b then d ∷ ds else added_part names ds)) (objects_of T in_main (decls_of es) (objects_of T in_main
-          (decls_of (if b then [] else d ∷ own_part names ds)) V))
-      by_test true e = in-turn es (d ∷ ds) V
-      by_test false e = e
-
-  -- tasks and bodies add no object
-  passed-over : (ds : List PDecl) (V : Variables) → objects_of T in_main (decls_of ds) V ≡ objects_of T in_main (decls_of (filter (λ d. not
-      (is_task d || is_body d)) ds)) V
-  passed-over [] V = refl
-  passed-over (DTask t s ∷ ds) V = passed-over ds V
-  passed-over (DTaskBody w objects its s ∷ ds) V = passed-over ds V
-  passed-over (DNumber w e s ∷ ds) V = passed-over ds (after_declaration T in_main (DNumber w e s) V)
-  passed-over (DObject ws k y i s ∷ ds) V = passed-over ds (after_declaration T in_main (DObject ws k y i s) V)
-  passed-over (DEnumeration w ws s ∷ ds) V = passed-over ds (after_declaration T in_main (DEnumeration w ws s) V)
-  passed-over (DArray w i y s ∷ ds) V = passed-over ds (after_declaration T in_main (DArray w i y s) V)
-  passed-over (DSubtype w y s ∷ ds) V = passed-over ds (after_declaration T in_main (DSubtype w y s) V)
-  passed-over (DException ws s ∷ ds) V = passed-over ds (after_declaration T in_main (DException ws s) V)
-  passed-over (DIntIo w s ∷ ds) V = passed-over ds (after_declaration T in_main (DIntIo w s) V)
-  passed-over (DPragma e s ∷ ds) V = passed-over ds (after_declaration T in_main (DPragma e s) V)
-
   tasks-none : (x : AbortTeller) (names : List (List ℕ)) (ds : List PDecl) (V : Variables) → objects_of T in_main (decls_of (map (abort_decl x names)
       (filter is_task ds))) V ≡ V
   tasks-none x names [] V = refl
@@ -176,55 +109,6 @@ module _ (T : TypeTable) (in_main : Bool) where
   bodies-none x names (DException ws s ∷ ds) V = bodies-none x names ds V
   bodies-none x names (DIntIo w s ∷ ds) V = bodies-none x names ds V
   bodies-none x names (DPragma e s ∷ ds) V = bodies-none x names ds V
-
-plain-listed : (P : PDecl → Type 0) (ds : List PDecl) → AllByRecursion P ds → AllByRecursion P (filter (λ d. not (is_task d || is_body d)) ds)
-plain-listed P [] h = tt
-plain-listed P (DTask t s ∷ ds) h = plain-listed P ds h.1
-plain-listed P (DTaskBody w objects its s ∷ ds) h = plain-listed P ds h.1
-plain-listed P (DNumber w e s ∷ ds) h = (h.0, plain-listed P ds h.1)
-plain-listed P (DObject ws k y i s ∷ ds) h = (h.0, plain-listed P ds h.1)
-plain-listed P (DEnumeration w ws s ∷ ds) h = (h.0, plain-listed P ds h.1)
-plain-listed P (DArray w i y s ∷ ds) h = (h.0, plain-listed P ds h.1)
-plain-listed P (DSubtype w y s ∷ ds) h = (h.0, plain-listed P ds h.1)
-plain-listed P (DException ws s ∷ ds) h = (h.0, plain-listed P ds h.1)
-plain-listed P (DIntIo w s ∷ ds) h = (h.0, plain-listed P ds h.1)
-plain-listed P (DPragma e s ∷ ds) h = (h.0, plain-listed P ds h.1)
-
-every-listed : (r : Rules) (ds : PDecls) → EveryDecls r ds → AllByRecursion (EveryDecl r) (decl_list ds)
-every-listed r no_decl h = tt
-every-listed r (decl_then d ds) h = (h.0, every-listed r ds h.1)
-
-bodies-listed : (r : Rules) (ds : List PDecl) → AllByRecursion (EveryDecl r) ds → AllByRecursion (InBody (EveryDecl r)) ds
-bodies-listed r [] h = tt
-bodies-listed r (DTask t s ∷ ds) h = (tt, bodies-listed r ds h.1)
-bodies-listed r (DTaskBody w objects its s ∷ ds) h = (every-listed r objects h.0.3, bodies-listed r ds h.1)
-bodies-listed r (DNumber w e s ∷ ds) h = (tt, bodies-listed r ds h.1)
-bodies-listed r (DObject ws k y i s ∷ ds) h = (tt, bodies-listed r ds h.1)
-bodies-listed r (DEnumeration w ws s ∷ ds) h = (tt, bodies-listed r ds h.1)
-bodies-listed r (DArray w i y s ∷ ds) h = (tt, bodies-listed r ds h.1)
-bodies-listed r (DSubtype w y s ∷ ds) h = (tt, bodies-listed r ds h.1)
-bodies-listed r (DException ws s ∷ ds) h = (tt, bodies-listed r ds h.1)
-bodies-listed r (DIntIo w s ∷ ds) h = (tt, bodies-listed r ds h.1)
-bodies-listed r (DPragma e s ∷ ds) h = (tt, bodies-listed r ds h.1)
-
--- the unit of a body is never main's
-none-in-main : (ds : PDecls) (name : NameId) → (unit_among ds name).in_main ≡ false
-none-in-main no_decl name = refl
-none-in-main (decl_then (DTaskBody w objects its s) ds) name = by_test (w.name.0 == name.0) (none-in-main ds name)
-  where
-    by_test : (c : Bool) → (unit_among ds name).in_main ≡ false → (unwrap_or
-        (if c then Some record { in_main = false; decls = objects; body = its } else None) (unit_among ds name)).in_main ≡ false
-    by_test true e = refl
-    by_test false e = e
-none-in-main (decl_then (DTask t s) ds) name = none-in-main ds name
-none-in-main (decl_then (DNumber w e s) ds) name = none-in-main ds name
-none-in-main (decl_then (DObject ws k y i s) ds) name = none-in-main ds name
-none-in-main (decl_then (DEnumeration w ws s) ds) name = none-in-main ds name
-none-in-main (decl_then (DArray w i y s) ds) name = none-in-main ds name
-none-in-main (decl_then (DSubtype w y s) ds) name = none-in-main ds name
-none-in-main (decl_then (DException ws s) ds) name = none-in-main ds name
-none-in-main (decl_then (DIntIo w s) ds) name = none-in-main ds name
-none-in-main (decl_then (DPragma e s) ds) name = none-in-main ds name
 
 module _ (p : PProgram) (h : IsLegalOriginal p) where
   abbrev q : PProgram
@@ -255,7 +139,7 @@ module _ (p : PProgram) (h : IsLegalOriginal p) where
   r = old_names (names_kept p)
 
   all-old : AllByRecursion (EveryDecl r) (decl_list q.decls)
-  all-old = every-listed r q.decls (named p h)
+  all-old = every_listed r q.decls (named p h (abort_text p) (abort_setting p) (names_kept p) (names-stay p h) (values p h))
 
   -- ---- the variables by which a unit hears the recorder
 
@@ -490,7 +374,7 @@ module _ (p : PProgram) (h : IsLegalOriginal p) where
               (list_any is_int_io plain-part) (last_task F) (places_in q.body) ∙ one.4,
         ) in
         let old = plain-listed (EveryDecl r) (decl_list q.decls) all-old in
-        let plain = objects-old p h (start_before p 0) (objects-plain p h 0) in
+        let plain = start-plain p h (abort_text p) (abort_setting p) (names_kept p) (names-stay p h) (values p h) 0 in
         subst (λ V. Started (places_in q.body) V (objects_of U true (abort_text p).decls [])) (sym main-before)
         (subst (λ V'. Started (places_in q.body) (objects_in T true plain-part) V') (sym main-after)
         (starts-with true (places_in q.body) (few-places p 0) es plain-part old heard (subst (AllByRecursion (IsPlain b)) main-before plain)))
@@ -507,7 +391,8 @@ module _ (p : PProgram) (h : IsLegalOriginal p) where
         let old : AllByRecursion (EveryDecl r) ds =
         subst (λ (y : Unit). AllByRecursion (EveryDecl r) (decl_list y.decls)) (sym is) (in-unit (EveryDecl r) q.decls info.unit (bodies-listed r
         (decl_list q.decls) all-old)) in
-        let plain : AllByRecursion (IsPlain b) (start_before p (suc t)) = objects-old p h (start_before p (suc t)) (objects-plain p h (suc t)) in
+        let plain : AllByRecursion (IsPlain b) (start_before p (suc t)) =
+        start-plain p h (abort_text p) (abort_setting p) (names_kept p) (names-stay p h) (values p h) (suc t) in
         subst (λ V. Started (places (suc t)) V (objects_of U false (told_unit x q.names info.unit s (unit_of q F (suc t))).decls [])) (sym same)
         (starts-with false (places (suc t)) (few-places p (suc t)) (unit_declared n s ++ places_declared x s (places (suc t))) ds old
         (unit-heard false s (places (suc t))) (subst (AllByRecursion (IsPlain b)) same plain))
@@ -517,7 +402,7 @@ module _ (p : PProgram) (h : IsLegalOriginal p) where
         (form_setting p) inputs t) (started (abort_setting p) inputs t)
     legal_starts inputs zero l =
         of-body 0 q.name.span q.body (abort_text p).body (objects_of T true q.decls []) (objects_of U true (abort_text p).decls [])
-        (slice_index_or inputs 0 []) (bodies-old p h 0) main-started refl
+        (slice_index_or inputs 0 []) (only-old p h (abort_setting p) (names_kept p) (names-stay p h) 0) main-started refl
     legal_starts inputs (suc t) l =
         let at = beside-main p [] h t l in
         let info : TaskInfo = at.0 in
@@ -526,7 +411,8 @@ module _ (p : PProgram) (h : IsLegalOriginal p) where
         subst (λ (k : Unit). StartsWithPlaces (texts_of p kept) (suc t) (places (suc t)) (started (form_setting p) inputs (suc t)) (started_in
         (abort_setting p) (suc t) k (slice_index_or inputs (suc t) []))) (sym runs.1)
         (of-body (suc t) s (unit_of q F (suc t)).body (task_body (told_at x (task_of F info.unit)) s (unit_of q F (suc t)).body) (start_before p (suc t))
-        (objects_of U false (told_unit x q.names info.unit s (unit_of q F (suc t))).decls []) (slice_index_or inputs (suc t) []) (bodies-old p h (suc t))
+        (objects_of U false (told_unit x q.names info.unit s (unit_of q F (suc t))).decls []) (slice_index_or inputs (suc t) [])
+        (only-old p h (abort_setting p) (names_kept p) (names-stay p h) (suc t))
         (task-started t info at.1 s)
         (ap (λ (m : ℕ). task_body (told_at x m) s (unit_of q F (suc t)).body) runs.2
         ∙ ap (λ (c : Bool). if c then main_body (told_at x (suc t)) (unit_of q F (suc t)).body else task_body (told_at x (suc t)) s (unit_of q F (suc t)).body)

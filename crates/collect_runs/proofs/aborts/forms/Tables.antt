@@ -1,12 +1,10 @@
 -- The tables of types of a normal form and of its collecting text with abort statements agree on names that stay, and the names that the text adds are none of
 -- these.
-use Rattle.std.proofs.Common.{◌≡◌, ℕ, zero, suc, ◌≤◌, ◌==◌, Bool, true, false, if◌then◌else◌, List, [], ◌∷◌, unwrap_or, Option, Some, None, refl, sym}
+use Rattle.std.proofs.Common.{◌≡◌, ℕ, zero, suc, ◌≤◌, ◌==◌, Bool, true, false, if◌then◌else◌, [], unwrap_or, Option, Some, None, refl, sym}
 use Rattle.std.proofs.Common.{subst, ◌∙◌, true≢false, arith}
 use Rattle.std.specs.Fmt.{decimal}
 use Rattle.std.specs.List.{AllByRecursion}
-use Rattle.std.specs.Str.{bytes_eq}
 use Rattle.std.proofs.lemmas.Bool.{ne_eqb}
-use Rattle.std.proofs.lemmas.Slice.Eq.{bytes_eq-Decides}
 use Rattle.common_lemmas.proofs.Numbers.{equal_self}
 use Rattle.ada_tree.specs.declared.naming.NameId.{NameId}
 use Rattle.ada_tree.specs.TypeTable.{TypeTable}
@@ -48,6 +46,7 @@ use Rattle.collect_runs.specs.aborts.translation.Floors.{IsPlace, ArePlacesAdded
 use Rattle.collect_runs.specs.aborts.forms.Texts.{names_added, names_kept, texts_of}
 use Rattle.collect_runs.proofs.aborts.forms.Numbers.{same_added}
 use Rattle.collect_runs.proofs.aborts.forms.Keeping.{new-shut, keeps-normal, keeps-text}
+use Rattle.collect_structure.proofs.aborts.typed.Apart.{differ-by, behind-five}
 
 -- ---- the names that every collecting text adds
 
@@ -71,16 +70,6 @@ names_are_added p =
 -- no two places of a unit have one text
 abbrev pub AreCounted : PProgram → Type 0
 AreCounted q = (n m : ℕ) → n ≤ most_places q → m ≤ most_places q → decimal n ≡ decimal m → n ≡ m
-
-differ-by : (a b : List ℕ) → (a ≡ b → ⊥) → bytes_eq a b ≡ false
-differ-by a b n = by_test (bytes_eq a b) refl
-  where
-    by_test : (t : Bool) → bytes_eq a b ≡ t → t ≡ false
-    by_test false e = refl
-    by_test true e = absurd (n ((bytes_eq-Decides a b).0 e))
-
-behind-five : (a b c d e : ℕ) (xs ys : List ℕ) → a ∷ b ∷ c ∷ d ∷ e ∷ xs ≡ a ∷ b ∷ c ∷ d ∷ e ∷ ys → xs ≡ ys
-behind-five a b c d e xs ys h = cc
 
 -- no unit has more places
 few-among : (q : PProgram) (most : ℕ) (ds : PDecls) (name : NameId) → AllByRecursion (λ d. places_of d ≤ most) (decl_list ds) → places_in

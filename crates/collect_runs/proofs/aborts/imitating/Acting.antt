@@ -1,8 +1,6 @@
 -- What each task of a collecting text with abort statements does beside the law's copy, whatever the world: its output, its local steps and its offers, and
 -- what it tells.
 use Rattle.std.proofs.Common.{◌≡◌, ℕ, Bool, true, false, List, [], ◌∷◌, None, refl, sym, ap, ◌∙◌, subst, true≢false}
-use Rattle.std.specs.Prelude.{ℤ}
-use Rattle.event_machine.specs.declared.CallForm.{CallForm}
 use Rattle.event_machine.specs.Offers.{Offer, Nothing, Calls, Waits, Finishes, Ends, Aborts}
 use Rattle.ada_value.specs.declared.values.Value.TheVariants.{Truth}
 use Rattle.task_model.specs.Tasks.{Task}
@@ -13,7 +11,7 @@ use Rattle.normal_laws.specs.runs.runs.Laws.{IsCalm}
 use Rattle.task_laws.specs.translation.Controls.{Alike, alike}
 use Rattle.run_laws.specs.collecting.Copies.{telling}
 use Rattle.run_laws.proofs.collecting.Offered.{nothing_tells, waits_tell, finish_tells, end_tells, abort_tells}
-use Rattle.collect_runs.proofs.imitating.Acting.{offering-rests}
+use Rattle.collect_runs.proofs.imitating.Acting.{offering-rests, nothing_calls, nothing_ends}
 use Rattle.run_laws.specs.aborts.Notes.{Note, BeforeCall, HasBegun, HasFinished, HasElse, HasDelay, HasCallElse, HasExpired, HasFailed, AtEnd, ToAbort}
 use Rattle.run_laws.specs.aborts.Notes.{HasReturned, Book, empty_book}
 use Rattle.run_laws.specs.aborts.Copies.{done_by, line_ends, based_note, Copy, Based, Calling, Owing, Refusing, Leaving, Opening, Recording, Writing}
@@ -33,16 +31,6 @@ use Rattle.collect_runs.specs.aborts.imitating.Settings.{Collecting, original_of
 use Rattle.collect_runs.specs.aborts.imitating.Copies.{MeetsCopy}
 use Rattle.collect_runs.proofs.aborts.recorder.Taking.{recorders_take_notes}
 use Rattle.collect_runs.proofs.aborts.imitating.Reaching.{Arrives, comes, leads}
-
--- what calls, ends a rendezvous, ends or aborts is an offer
-nothing_calls : (form : CallForm) (e : ℕ) (i : ℤ) → Nothing ≡ Calls form e i → ⊥
-nothing_calls form e i h = let p : ◌≡◌ {A = Offer} Nothing (Calls form e i) = h in cc
-
-pub nothing_finishes : Nothing ≡ Finishes → ⊥
-nothing_finishes h = let p : ◌≡◌ {A = Offer} Nothing Finishes = h in cc
-
-nothing_ends : Nothing ≡ Ends → ⊥
-nothing_ends h = let p : ◌≡◌ {A = Offer} Nothing Ends = h in cc
 
 nothing_aborts : (v : ℕ) → Nothing ≡ Aborts v → ⊥
 nothing_aborts v h = let p : ◌≡◌ {A = Offer} Nothing (Aborts v) = h in cc

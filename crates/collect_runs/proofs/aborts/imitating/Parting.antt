@@ -18,7 +18,7 @@ use Rattle.run_laws.specs.imitation.Imitations.{Original, IsComeTo}
 use Rattle.run_laws.specs.imitation.Imitating.{local_at}
 use Rattle.run_laws.specs.collecting.inner.Beside.{CameFree}
 use Rattle.run_laws.proofs.collecting.Reaching.{reached_come}
-use Rattle.collect_runs.proofs.imitating.Acting.{offering-rests}
+use Rattle.collect_runs.proofs.imitating.Acting.{offering-rests, nothing_finishes}
 use Rattle.run_laws.specs.aborts.Notes.{Book}
 use Rattle.run_laws.specs.aborts.Copies.{Returned, Over, Copy, Based, Calling, Owing, Refusing, Recording, Noted, first_caller, under}
 use Rattle.run_laws.specs.aborts.Settings.{Setting, recorder, twin}
@@ -37,7 +37,7 @@ use Rattle.collect_runs.specs.aborts.telling.Laws.{TellsAlike}
 use Rattle.collect_runs.specs.aborts.imitating.Settings.{Collecting, original_of, collected}
 use Rattle.collect_runs.specs.aborts.imitating.Copies.{MeetsCopy}
 use Rattle.collect_runs.proofs.aborts.imitating.Reaching.{Arrives, comes, leads}
-use Rattle.collect_runs.proofs.aborts.imitating.Acting.{nothing_finishes, takes, TellsNote, tells-note}
+use Rattle.collect_runs.proofs.aborts.imitating.Acting.{takes, TellsNote, tells-note}
 use Rattle.collect_runs.proofs.aborts.imitating.Worlds.{free-other}
 use Rattle.collect_runs.proofs.aborts.imitating.Moving.{at-state, local-is, goes-on, happens-now}
 

@@ -1,5 +1,5 @@
 -- The case statement of a callee that is chosen: both come to the branch of the same member.
-use Rattle.std.proofs.Common.{◌≡◌, ℕ, ◌<◌, ◌==◌, ◌&&◌, cond, ℤ, Bool, true, false, if◌then◌else◌, List, [], ◌∷◌, length, map, Option, Some, None, option_map, Result, Ok, refl, sym, ap, subst, ◌∙◌, slice_get, slice_set, position, arith, true≢false}
+use Rattle.std.proofs.Common.{◌≡◌, ℕ, ◌==◌, ◌&&◌, cond, ℤ, Bool, true, false, if◌then◌else◌, List, [], ◌∷◌, length, map, Option, Some, None, option_map, Result, Ok, refl, sym, ap, subst, ◌∙◌, slice_get, slice_set, position, arith, true≢false}
 use Rattle.std.specs.Prelude.{int_le, is_some, is_ok, ok_or, find, nat_lt}
 use Rattle.std.specs.List.{AllByRecursion, filter, position_or_len}
 use Rattle.std.specs.Ordering.{int_eq}
@@ -34,19 +34,17 @@ use Rattle.normal_laws.proofs.runs.floors.Cells.{named-set_same, named-set_other
 use Rattle.collect_runs.specs.aborts.likeness.Likeness.{Ground, Goal, Beside, form, with_these, Near, IsThere, Skipped, Passes, PassesCase}
 use Rattle.collect_runs.proofs.aborts.likeness.Near.{Agree, fixed-none, near-right}
 use Rattle.collect_runs.proofs.aborts.likeness.Preludes.{FitsThere, Stable}
+use Rattle.common_lemmas.proofs.Numbers.{lt_true, lt_is}
 
 -- a position lies between another and itself where the two are the same
 eq-le : (z i : ℤ) → (int_le i z && int_le z i) ≡ int_eq z i
 eq-le z i = grind (arith, Decides-int_eq)
 
-some-is : (c d : TaskInfo) → Some c ≡ Some d → c ≡ d
-some-is c d e = cc
-
 fit-bool : (b : Bool) → and_then {A = Bool} {B = Bool} (Ok b) (λ c. if c then Ok true else Ok false) ≡ Ok b
 fit-bool true = refl
 fit-bool false = refl
 
-bool-is : (c d : Bool) → ◌≡◌ {A = Result Bool Raised} (Ok c) (Ok d) → c ≡ d
+pub bool-is : (c d : Bool) → ◌≡◌ {A = Result Bool Raised} (Ok c) (Ok d) → c ≡ d
 bool-is c d e = cc
 
 module _ (x : Ground) where
@@ -175,17 +173,11 @@ module _ (x : Ground) where
 
 -- ---- a task of that name and index
 
-lt-true : (k n : ℕ) → k < n → nat_lt k n ≡ true
-lt-true k n l = grind (arith, l)
-
-true-lt : (k n : ℕ) → nat_lt k n ≡ true → k < n
-true-lt k n e = grind (arith, e)
-
 find-place : (p : TaskInfo → Bool) (xs : List TaskInfo) (y : TaskInfo) → find p xs ≡ Some y → (t : ℕ) × (position p xs ≡ Some t) × (slice_get xs t ≡ Some y)
 find-place p xs y h =
     let k : ℕ = position_or_len p xs in
     let e : slice_get xs k ≡ Some y = sym (find_at p xs) ∙ h in
-    (k, ap (λ c. cond c (Some k) None) (lt-true k (length xs) (slice_get_within xs k y e)), e)
+    (k, ap (λ c. cond c (Some k) None) (lt_true k (length xs) (slice_get_within xs k y e)), e)
 
 none-place : (p : TaskInfo → Bool) (xs : List TaskInfo) → find p xs ≡ None → position p xs ≡ None
 none-place p xs h = go (nat_lt (position_or_len p xs) (length xs)) refl
@@ -193,7 +185,7 @@ none-place p xs h = go (nat_lt (position_or_len p xs) (length xs)) refl
     go : (c : Bool) → nat_lt (position_or_len p xs) (length xs) ≡ c → cond c (Some (position_or_len p xs)) None ≡ None
     go false e = refl
     go true e =
-        let q = element_at xs (position_or_len p xs) (true-lt (position_or_len p xs) (length xs) e) in
+        let q = element_at xs (position_or_len p xs) (lt_is (position_or_len p xs) (length xs) e) in
         absurd (none-some q.0 (sym h ∙ find_at p xs ∙ q.1))
 
 module _ (x : Ground) (s : Span) (callee : PCallee) (asked : IsCallee x.programs callee) (n : ℕ) where

@@ -1,7 +1,5 @@
 -- Tasks that are alike go on alike, and a task that is settled stays so whatever is done to it.
-use Rattle.std.proofs.Common.{◌≡◌, ℕ, ℤ, true, List, length, refl, sym, ap, subst, ◌∙◌, true≢false}
-use Rattle.event_machine.specs.declared.CallForm.{CallForm}
-use Rattle.event_machine.specs.Offers.{Offer, Nothing, Calls, Waits, Finishes, Ends, Aborts}
+use Rattle.std.proofs.Common.{◌≡◌, ℕ, ℤ, true, List, length, refl, sym, ap, subst, ◌∙◌}
 use Rattle.run_laws.specs.collecting.Settings.{is_call}
 use Rattle.ada_tree.specs.PlainStmt.{PStmts}
 use Rattle.ada_value.specs.Variables.{Variables}
@@ -15,15 +13,7 @@ use Rattle.collect_runs.specs.aborts.telling.Forms.{backs, ComesBack, GoAlike}
 use Rattle.collect_runs.specs.aborts.likeness.Likeness.{Ground, Beside, form, with_these, Near, AreCells, LikeAt, IsLike, is_like, FirstOld, AreLike, the_same, are_like, IsSeen}
 use Rattle.collect_runs.proofs.aborts.likeness.Steps.{stands-same, step-like}
 use Rattle.collect_runs.proofs.aborts.likeness.Meetings as meetings
-
--- a call is one
-call-is : (offer : Offer) → is_call offer ≡ true → (f : CallForm) × (e : ℕ) × (i : ℤ) × (offer ≡ Calls f e i)
-call-is (Calls f e i) h = (f, e, i, refl)
-call-is Nothing h = absurd (true≢false (sym h))
-call-is (Waits choices) h = absurd (true≢false (sym h))
-call-is Finishes h = absurd (true≢false (sym h))
-call-is Ends h = absurd (true≢false (sym h))
-call-is (Aborts v) h = absurd (true≢false (sym h))
+use Rattle.collect_runs.proofs.imitating.Parting.{call-is}
 
 module _ (x : Ground) where
   -- ---- two that are alike

@@ -92,9 +92,6 @@ module _ (x : Ground) (made : AreMade x.programs) (s : Span) (c : PCall) (asked 
 
   -- ---- the callee is chosen
 
-  abbrev Part : Goal
-  Part = Passes x (one part) K
-
   part-skip : Skipped x (Passes x (one part) K)
   part-skip U u =
       ((λ cells. record { same = λ d. refl; into = λ d q. or-null x s met K U U skips (met-skip U u); beyond = λ d q. or-null x s other K U U skips (other_all U U u) }), skips)

@@ -23,11 +23,7 @@ use Rattle.collect_runs.specs.aborts.likeness.Likeness.{Ground, Goal, Beside, fo
 use Rattle.collect_runs.proofs.aborts.likeness.Near.{object-self}
 use Rattle.collect_runs.proofs.aborts.likeness.Frames.{of-there, joined, at-settled, settles, at-exited, goes, goes-raised, goes-pushed}
 use Rattle.collect_runs.proofs.aborts.likeness.Near.{near-drop}
-
--- an abort with a name is no step
-never-steps : (r : Result ℕ Raised) → name_stand r ≡ Steps → ⊥
-never-steps (Ok n) e = cc
-never-steps (Err a) e = cc
+use Rattle.collect_runs.proofs.telling.Standing.{no-name}
 
 -- ---- branches of a test
 
@@ -178,7 +174,7 @@ module _ (x : Ground) where
           (λ b q. either b (λ f. of-there x c.input c.output (settles x (at-exited x w c.outer c.place V W near inside outside))) (λ f. on behind h.1))
       step-at (SRaise w s) behind e h self = subst (λ e. IsLike x (raised_there (steps.exception_meant w t) t) (raised_there e t')) (sym (meant-same w)) (raises (steps.exception_meant w t))
       step-at (SAbort [] s) behind e h self = on behind h
-      step-at (SAbort (d ∷ ds) s) behind e h self = absurd (never-steps _ e)
+      step-at (SAbort (d ∷ ds) s) behind e h self = absurd (no-name _ e)
       step-at (SPut parts s) behind e h self = puts parts [] behind h.0 h.1
       step-at (SPutLine parts s) behind e h self = puts parts steps.line_end behind h.0 h.1
       step-at (SNewLine s) behind e h self = puts [] steps.line_end behind refl h

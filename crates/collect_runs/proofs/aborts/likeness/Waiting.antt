@@ -42,9 +42,7 @@ use Rattle.collect_runs.proofs.aborts.likeness.Frames.{joined}
 use Rattle.collect_runs.proofs.aborts.likeness.Near.{Agree, agree-stays}
 use Rattle.collect_runs.proofs.aborts.likeness.Values.{worth, always-skips}
 use Rattle.collect_runs.proofs.aborts.likeness.Preludes.{StableAt, assigns, assigns-skip}
-
-ok-bool : (c d : Bool) → ◌≡◌ {A = Result Bool Raised} (Ok c) (Ok d) → c ≡ d
-ok-bool c d e = cc
+use Rattle.collect_runs.proofs.aborts.likeness.Callees.{bool-is}
 
 not-both : {c : Bool} → c ≡ true → c ≡ false → ⊥
 not-both e f = cc
@@ -150,7 +148,7 @@ module _ (w : Rewritten) (added : Added w.programs w.programs.original) (declare
               assigns x s (n + 1) d no_stmt K (λ V1 W1. F V1 W1 × Agree x V1 W1 (variable_name g n))
               (λ V1 W1 u m z fa. (ahead (n + 1) (omega arith) (omega (arith, fits)) V1 W1 u m z fa.0, agree-stays x (variable_name g (n + 1)) u V1 W1 m (variable_name g n) fa.1))
               skip _ _ n1 (worth x _ _ n1 k) (f1, a) (λ cells2 v2 q2 r2 n2 fa a2. go _ _ n2 fa.0 (fa.1, λ t2. a2));
-          beyond = λ c t. go _ _ n1 f1 (a, λ t2. absurd (not-both t2 (ok-bool _ _ t)));
+          beyond = λ c t. go _ _ n1 f1 (a, λ t2. absurd (not-both t2 (bool-is _ _ t)));
         }),
         skip,
       ))

@@ -1,5 +1,5 @@
 -- A program in which a task aborts itself is a legal original.
-use Rattle.std.proofs.Common.{◌≡◌, ◌≤◌, ℕ, true, List, [], ◌∷◌, ◌++◌, codes, None, refl, arith, lit<}
+use Rattle.std.proofs.Common.{◌≡◌, ℕ, true, List, [], ◌∷◌, ◌++◌, codes, None, refl, arith, lit<}
 use Rattle.std.specs.List.{AllByRecursion}
 use Rattle.std.specs.Fmt.{digits}
 use Rattle.std.proofs.lemmas.List.Elements.{All-from_recursion}
@@ -23,6 +23,8 @@ use Rattle.collect_model.specs.aborts.examples.Trees.{o, w}
 use Rattle.collect_model.specs.aborts.examples.Itself.{itself}
 use Rattle.collect_runs.specs.aborts.originals.Laws.{IsMet}
 use Rattle.collect_runs.proofs.aborts.originals.Programs.{legal_texts_collect_programs}
+use Rattle.collect_structure.proofs.placed.Header.{IsPrintable}
+use Rattle.collect_runs.proofs.originals.Example.{letter-t}
 
 pub aborts : has_abort itself ≡ true
 aborts = refl
@@ -49,12 +51,6 @@ r = well_placed itself.names
 
 its-name : IsIdentifier (codes "P10")
 its-name = (refl, omega arith, refl)
-
-letter-t : IsIdentifier (codes "T")
-letter-t = (refl, omega arith, refl)
-
-abbrev IsPrintable : ℕ → Type 0
-IsPrintable b = (32 ≤ b) × (b ≤ 126)
 
 before : IsStringContent (codes "BEFORE")
 before = (

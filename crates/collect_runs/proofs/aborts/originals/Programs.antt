@@ -6,7 +6,6 @@ use Rattle.event_machine.specs.States.{Seat, State}
 use Rattle.event_machine.specs.Programs.{Program, numbered}
 use Rattle.event_machine.specs.Tallies.{tallies}
 use Rattle.ada_tree.specs.PlainProgram.{PProgram}
-use Rattle.ada_static_rules.specs.Refusals.{types_in}
 use Rattle.syn_event.specs.Numbering.{owner_of}
 use Rattle.task_model.specs.Tasks.{Task}
 use Rattle.task_model.specs.TaskOps.{task_ops}
@@ -15,13 +14,11 @@ use Rattle.task_laws.proofs.invariants.Beginning.{length_first}
 use Rattle.run_laws.specs.imitation.Shown.{Opened, end_from}
 use Rattle.run_laws.specs.imitation.Imitations.{Original}
 use Rattle.normal_laws.specs.runs.runs.Laws.{opened}
-use Rattle.normal_laws.specs.runs.forms.Normalisable.{numbers_of}
 use Rattle.normal_laws.specs.existence.Laws.{IsLegalOriginal}
 use Rattle.replay_runs.specs.starts.Laws.{form_in}
 use Rattle.replay_runs.specs.controls.meanings.Settings.{form_program, form_opening}
 use Rattle.replay_runs.specs.controls.replayed.Replaying.{starting}
 use Rattle.replay_runs.specs.controls.replayed.Laws.{starting_form}
-use Rattle.replay_runs.proofs.controls.Offers.{as-many-numbers}
 use Rattle.replay_runs.proofs.controls.replayed.Numbers.{form-tasks}
 use Rattle.run_laws.specs.aborts.Settings.{Setting}
 use Rattle.run_laws.specs.aborts.Laws.{IsShown, IsShownQuiet, Collects}
@@ -112,10 +109,6 @@ module _ (p : PProgram) (h : IsLegalOriginal p) (inputs : List (List ℤ)) where
       length_first setup (abort_setting p).numbers (length (abort_setting p).numbers.tasks)
       ∙ length-append (form_in p).numbers.tasks _
       ∙ (let e : recorder_number p + 1 ≡ suc (recorder_number p) = omega arith in e)
-
-  same-size : (starting p inputs).program.size ≡ (starting_form p inputs).program.size
-  same-size = length_first (record { program = p; types = types_in p; inputs = inputs }) (numbers_of p) (length (numbers_of p).tasks)
-      ∙ as-many-numbers p h ∙ sym form-size
 
   -- by the numbers that the rewriting gives it, the text starts as by its own
   text-starts : starting (abort_text p) inputs ≡ opened setup (abort_setting p).numbers

@@ -1,5 +1,5 @@
 -- What names mean in the accept body of the recorder, and in its loop there.
-use Rattle.std.proofs.Common.{◌≡◌, ℕ, ◌==◌, ◌≤◌, Bool, true, false, cond, [], ◌∷◌, ◌++◌, map, if◌then◌else◌, Option, Some, None, refl, ap, ◌∙◌}
+use Rattle.std.proofs.Common.{◌≡◌, ℕ, ◌==◌, ◌≤◌, Bool, true, false, [], ◌∷◌, ◌++◌, Option, Some, None, refl, ap, ◌∙◌}
 use Rattle.std.specs.Prelude.{pos, Ok}
 use Rattle.std.specs.List.{AllByRecursion}
 use Rattle.ada_tree.specs.declared.naming.NameId.{NameId}
@@ -8,19 +8,19 @@ use Rattle.ada_tree.specs.PlainExpr.{EName}
 use Rattle.ada_value.specs.declared.values.Value.{Value}
 use Rattle.ada_value.specs.declared.values.Value.TheVariants.{Number, Truth}
 use Rattle.ada_value.specs.Values.{integer_limits}
-use Rattle.ada_value.specs.Variables.{Object, Variables, object_named, set_value, with_value}
+use Rattle.ada_value.specs.Variables.{Object, Variables, object_named, set_value}
 use Rattle.ada_value.specs.Evaluating.{evaluated, name_value}
 use Rattle.table_law.specs.Controllers.{AreApart}
-use Rattle.table_law.proofs.Found.{found}
-use Rattle.common_lemmas.proofs.Numbers.{equal_self, unequal_turned}
+use Rattle.table_law.proofs.Found.{found, first-named}
 use Rattle.run_laws.specs.collecting.Notes.{flagged}
 use Rattle.collect_model.specs.Recording.{truth}
 use Rattle.collect_runs.specs.recorder.Telling.{Spelled}
-use Rattle.collect_runs.proofs.recorder.Finding.{set-among}
+use Rattle.collect_runs.proofs.recorder.Finding.{set-among, absent-named}
 use Rattle.run_laws.specs.aborts.Notes.{Book, numbered_so}
 use Rattle.collect_runs.specs.aborts.recorder.Recorders.{Recorder, names_of, last_of, variable_names, IsRecorder}
 use Rattle.collect_runs.specs.aborts.recorder.States.{numbers_object, flags_object, formal_object, kept, note_variables}
 use Rattle.collect_runs.proofs.aborts.recorder.Tables.{number-changed, flag-changed}
+use Rattle.collect_runs.proofs.aborts.telling.Placing.{passed-one, set-one}
 
 -- ---- books
 
@@ -35,21 +35,6 @@ abbrev pub with_acceptor : Book → (ℕ → ℕ) → Book
 with_acceptor b f = record { gone = b.gone; met = b.met; acceptor = f; events = b.events }
 
 -- ---- names that are apart
-
--- a name that no variable has
-absent-named : (vars : Variables) (id : NameId) → AllByRecursion (λ (y : NameId). (id.0 == y.0) ≡ false) (map (λ (o : Object). o.name) vars) → object_named vars id ≡ None
-absent-named [] id differ = refl
-absent-named (o ∷ vars) id differ = ap (λ (b : Bool). cond b (Some o) (object_named vars id)) (unequal_turned id.0 o.name.0 differ.0) ∙ absent-named vars id differ.1
-
--- the latest variable, and one behind it
-first-named : (o : Object) (vars : Variables) → object_named (o ∷ vars) o.name ≡ Some o
-first-named o vars = ap (λ (b : Bool). cond b (Some o) (object_named vars o.name)) (equal_self o.name.0)
-
-later-named : (o : Object) (vars : Variables) (id : NameId) → (o.name.0 == id.0) ≡ false → object_named (o ∷ vars) id ≡ object_named vars id
-later-named o vars id e = ap (λ (b : Bool). cond b (Some o) (object_named vars id)) e
-
-later-set : (o : Object) (vars : Variables) (id : NameId) (j : ℕ) (w : Value) → (o.name.0 == id.0) ≡ false → set_value (o ∷ vars) id j w ≡ o ∷ set_value vars id j w
-later-set o vars id j w e = ap (λ (b : Bool). if b then with_value o j w ∷ vars else o ∷ set_value vars id j w) e
 
 -- the loop parameter at a task
 abbrev pub each_object : Recorder → ℕ → Object
@@ -161,16 +146,16 @@ module _ (k : Recorder) (note : ℕ) (h : IsRecorder k note) (s : Spelled) (g : 
 
   pub turn-argument-is : (u : ℕ) → evaluated k.setting.types (in_turn u) (EName (names_of k).argument k.span) ≡ Ok (Number (pos s.argument))
   turn-argument-is u =
-      ap (λ (o : Option Object). Ok (name_value k.setting.types o (names_of k).argument)) (later-named (each_object k u) V (names_of k).argument other.1.1.0 ∙ argument-named)
+      ap (λ (o : Option Object). Ok (name_value k.setting.types o (names_of k).argument)) (passed-one (each_object k u) V (names_of k).argument other.1.1.0 ∙ argument-named)
 
   pub turn-acceptors-named : (u : ℕ) → object_named (in_turn u) k.teller.acceptors ≡ Some (numbers_object k k.teller.acceptors b.acceptor)
-  turn-acceptors-named u = later-named (each_object k u) V k.teller.acceptors other.1.1.1.1.1.1.0 ∙ acceptors-named
+  turn-acceptors-named u = passed-one (each_object k u) V k.teller.acceptors other.1.1.1.1.1.1.0 ∙ acceptors-named
 
   pub turn-met-named : (u : ℕ) → object_named (in_turn u) (names_of k).met ≡ Some (numbers_object k (names_of k).met b.met)
-  turn-met-named u = later-named (each_object k u) V (names_of k).met other.1.1.1.1.1.1.1.0 ∙ met-named
+  turn-met-named u = passed-one (each_object k u) V (names_of k).met other.1.1.1.1.1.1.1.0 ∙ met-named
 
   pub turn-met-set : (u n : ℕ) → u ≤ last_of k →
       set_value (in_turn u) (names_of k).met u (Number (pos n)) ≡ each_object k u ∷ note_variables k s g (with_met b (numbered_so b.met u n))
   turn-met-set u n l =
-      later-set (each_object k u) V (names_of k).met u (Number (pos n)) other.1.1.1.1.1.1.1.0
+      set-one (each_object k u) V (names_of k).met u (Number (pos n)) other.1.1.1.1.1.1.1.0
       ∙ ap (λ (vs : Variables). each_object k u ∷ vs) (met-set u n l)

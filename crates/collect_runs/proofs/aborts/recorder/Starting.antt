@@ -1,7 +1,6 @@
 -- How the recorder starts, what it offers at its wait, and how it goes on to its next turn.
-use Rattle.std.proofs.Common.{◌≡◌, ℕ, suc, Bool, true, false, List, [], ◌∷◌, ◌++◌, replicate, option_map, Option, Some, None, append-nil, refl, sym, ap, ap₂, ◌∙◌, subst, arith}
+use Rattle.std.proofs.Common.{◌≡◌, ℕ, suc, Bool, true, false, List, [], ◌∷◌, ◌++◌, replicate, option_map, Option, Some, None, append-nil, refl, sym, ap, ap₂, ◌∙◌, subst}
 use Rattle.std.specs.Prelude.{pos, ◌+ℤ◌, ◌-ℤ◌, Result, Ok}
-use Rattle.std.proofs.lemmas.Int.{ints}
 use Rattle.common_lemmas.proofs.Options.{some_same, not_missing}
 use Rattle.event_machine.specs.declared.Choice.TheVariants.{Accept, Terminate}
 use Rattle.event_machine.specs.Offers.{Waits}
@@ -43,9 +42,7 @@ use Rattle.run_laws.specs.aborts.Notes.{Book, empty_book}
 use Rattle.collect_runs.specs.aborts.recorder.Recorders.{Recorder, names_of, last_of, IsRecorder}
 use Rattle.collect_runs.specs.aborts.recorder.States.{lines_of, written_of, standing, numbers_object, flags_object, kept, note_variables, starting, loop_around, behind_loop, waiting, hearing}
 use Rattle.collect_runs.proofs.aborts.recorder.Tables.{values-all}
-
-count-is : (n : ℕ) → count_to ((pos n -ℤ pos 0) +ℤ pos 1) ≡ suc n
-count-is n = let e : (pos n -ℤ pos 0) +ℤ pos 1 ≡ pos (suc n) = omega (arith, ints) in ap count_to e
+use Rattle.collect_runs.proofs.recorder.Starting.{count-is}
 
 module _ (k : Recorder) (note : ℕ) (h : IsRecorder k note) where
   -- ---- the start

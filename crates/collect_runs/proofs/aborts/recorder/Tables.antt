@@ -1,8 +1,7 @@
 -- What the recorder keeps of each task, as the values of an array.
 use Rattle.std.proofs.Common.{◌≡◌, ℕ, zero, suc, ◌+◌, ◌<◌, ◌≤◌, ◌==◌, Bool, true, false, List, ◌∷◌, replicate, if◌then◌else◌, refl, sym, ap, ap₂, ◌∙◌, arith}
-use Rattle.std.specs.Prelude.{ℤ, pos, ◌-ℤ◌, ◌&&◌, int_le, slice_index_or, slice_set, unsigned_abs, Result, Ok, Err, Some}
+use Rattle.std.specs.Prelude.{pos, slice_index_or, slice_set, Result, Ok, Some}
 use Rattle.std.specs.Ordering.{int_eq}
-use Rattle.std.proofs.lemmas.Bool.{le-leb}
 use Rattle.std.proofs.lemmas.Bool.Decides.{nat_tests}
 use Rattle.std.proofs.lemmas.Int.{ints}
 use Rattle.common_lemmas.proofs.Numbers.{equal_is, equal_self, unequal_above}
@@ -12,14 +11,14 @@ use Rattle.ada_value.specs.declared.values.Limits.{Limits}
 use Rattle.ada_value.specs.declared.values.Value.{Value}
 use Rattle.ada_value.specs.declared.values.Value.TheVariants.{Number, Truth}
 use Rattle.ada_value.specs.declared.values.Raised.{Raised}
-use Rattle.ada_value.specs.declared.values.Raised.TheVariants as raised
-use Rattle.ada_value.specs.Values.{and_then, place_in, truth_limits, integer_limits}
+use Rattle.ada_value.specs.Values.{and_then, truth_limits, integer_limits}
 use Rattle.ada_value.specs.Variables.{value_there, component_place, with_value}
 use Rattle.ada_value.specs.Evaluating.{component_value}
 use Rattle.run_laws.specs.collecting.Notes.{flagged}
 use Rattle.run_laws.specs.aborts.Notes.{numbered_so}
 use Rattle.collect_runs.specs.aborts.recorder.Recorders.{Recorder, last_of}
 use Rattle.collect_runs.specs.aborts.recorder.States.{values_from, table_object, numbers_object, flags_object}
+use Rattle.collect_runs.proofs.recorder.Flags.{place-is}
 
 -- ---- lists of values
 
@@ -71,14 +70,6 @@ pub same-number : (a b : ℕ) → int_eq (pos a) (pos b) ≡ (a == b)
 same-number a b = grind (arith, ints, nat_tests)
 
 -- ---- arrays
-
--- the place of a task's value
-place-is : (c n : ℕ) → c ≤ n → place_in (record { kind = integer_kind; first = pos 0; last = pos n }) (pos c) ≡ Ok c
-place-is c n l =
-    let same : pos c -ℤ pos 0 ≡ pos c = omega (arith, ints) in
-    ap (λ (b : Bool). if b && int_le (pos c) (pos n) then Ok (unsigned_abs (pos c -ℤ pos 0)) else Err raised.Constraint) (le-leb 0 c (omega arith))
-    ∙ ap (λ (b : Bool). if b then Ok (unsigned_abs (pos c -ℤ pos 0)) else Err raised.Constraint) (le-leb c n l)
-    ∙ ap (λ (z : ℤ). Ok (unsigned_abs z)) same
 
 -- arrays whose values are the same
 pub table-same : (k : Recorder) (name : NameId) (limits : Limits) (f g : ℕ → Value) → ((u : ℕ) → u ≤ last_of k → f u ≡ g u) → table_object k name limits f ≡ table_object k name limits g

@@ -1,5 +1,5 @@
 -- What the conditions of the recorder are worth, among any variables in which its names mean what they are to.
-use Rattle.std.proofs.Common.{◌≡◌, ℕ, ◌==◌, ◌≤◌, Bool, true, false, if◌then◌else◌, Option, Some, refl, ap, ap₂, ◌∙◌, arith}
+use Rattle.std.proofs.Common.{◌≡◌, ℕ, ◌==◌, ◌≤◌, Bool, if◌then◌else◌, Option, Some, ap, ap₂, ◌∙◌, arith}
 use Rattle.std.specs.Prelude.{pos, ◌&&◌, Result, Ok, Err}
 use Rattle.table_law.proofs.Numbers.{small, fitted-ok}
 use Rattle.ada_tree.specs.declared.naming.NameId.{NameId}
@@ -21,17 +21,14 @@ use Rattle.collect_model.specs.aborts.Recording.{entry_for, stands, is_meeting}
 use Rattle.collect_runs.specs.aborts.recorder.Recorders.{Recorder, names_of, last_of}
 use Rattle.collect_runs.specs.aborts.recorder.States.{table_object, numbers_object}
 use Rattle.collect_runs.proofs.aborts.recorder.Tables.{table-read, same-number}
-
-true-is : (b : Bool) → is_true_value (Truth b) ≡ b
-true-is true = refl
-true-is false = refl
+use Rattle.normal_laws.proofs.runs.waits.Choices.{truth-of}
 
 -- an arm is taken, or not, by its condition
 pub arm-by : (t : Task) (e : PExpr) (stmts : PStmts) (rest : PArms) (otherwise : PMaybe) (b : Bool) → evaluated t.setting.types (vars_of t) e ≡ Ok (Truth b) →
     arm_taken t (arm_then (arm e stmts) rest) otherwise ≡ (if b then Ok (present stmts) else arm_taken t rest otherwise)
 arm-by t e stmts rest otherwise b is =
     ap (λ (r : Result Value Raised). and_then (and_then r (λ v. Ok (is_true_value v))) (λ c. if c then Ok (present stmts) else arm_taken t rest otherwise)) is
-    ∙ ap (λ (c : Bool). if c then Ok (present stmts) else arm_taken t rest otherwise) (true-is b)
+    ∙ ap (λ (c : Bool). if c then Ok (present stmts) else arm_taken t rest otherwise) (truth-of b)
 
 -- a number goes to an array of INTEGER
 pub number-fits : (n : ℕ) → n ≤ 2147483647 → checked integer_limits (Number (pos n)) ≡ Ok (Number (pos n))
@@ -72,7 +69,7 @@ module _ (k : Recorder) (vars : Variables) where
       (entry-is k.teller.acceptors task integer_limits (λ t. Number (pos (a t))) u acceptors at l)
       ∙ ap (λ (r : Result Value Raised). operated And (Ok (Truth (f u == 1))) (operated Equal (Ok (Number (pos (a u)))) r)) by
       ∙ ap (λ (x : Bool). operated And (Ok (Truth (f u == 1))) (Ok (Truth x))) (same-number (a u) v)
-      ∙ ap₂ (λ (x y : Bool). Ok (Truth (x && y))) (true-is (f u == 1)) (true-is (a u == v))
+      ∙ ap₂ (λ (x y : Bool). Ok (Truth (x && y))) (truth-of (f u == 1)) (truth-of (a u == v))
     where
       few : (n : ℕ) → 1 ≤ 2147483647
       few n = omega arith

@@ -1,14 +1,8 @@
 -- The names of the recorder of a legal program's collecting text with abort statements are apart, and the predefined types are there.
-use Rattle.std.proofs.Common.{◌≡◌, ℕ, zero, suc, ◌==◌, ◌<◌, ◌&&◌, not, Bool, true, false, List, [], ◌∷◌, ◌++◌, length, drop, option_map, slice_get, position}
+use Rattle.std.proofs.Common.{◌≡◌, ℕ, suc, ◌==◌, ◌<◌, Bool, true, false, List, [], ◌∷◌, ◌++◌, length, drop, option_map, slice_get, position}
 use Rattle.std.proofs.Common.{length-append, append_assoc, Option, Some, None, if◌then◌else◌, refl, sym, ap, ◌∙◌, arith}
 use Rattle.std.specs.Prelude.{codes}
-use Rattle.std.specs.List.{AllByRecursion, list_any}
-use Rattle.std.specs.Str.{bytes_eq}
 use Rattle.std.proofs.lemmas.List.{take-append-drop}
-use Rattle.common_lemmas.proofs.Lists.{texts_differ}
-use Rattle.common_lemmas.proofs.Numbers.{unequal}
-use Rattle.common_lemmas.proofs.Truth.{and_both, not_true, or_both}
-use Rattle.ada_tree.specs.declared.naming.NameId.{NameId}
 use Rattle.ada_tree.specs.declared.static_types.Kind.TheVariants.{Integer}
 use Rattle.ada_tree.specs.Attributes.{false_name, true_name}
 use Rattle.ada_tree.specs.NameList.{predefined}
@@ -22,7 +16,7 @@ use Rattle.task_laws.specs.legal.rewritten_types.Agreement.{Grows}
 use Rattle.task_laws.proofs.legal.rewritten_types.Lookups.{find-grown}
 use Rattle.task_laws.proofs.legal.types.MainScopes.{grows-decls}
 use Rattle.normal_model.specs.Names.{id_of}
-use Rattle.normal_model.proofs.VariablesLemmas.{Begins, begins-refl, begins-trans}
+use Rattle.normal_model.proofs.VariablesLemmas.{Begins, begins-trans}
 use Rattle.normal_laws.proofs.structure.types.Names.{fold-begins}
 use Rattle.normal_laws.proofs.structure.types.NamesApart.{front-kept}
 use Rattle.normal_laws.proofs.structure.numbers.Named.{Has, text-there, has-folded, has-longer}
@@ -47,47 +41,16 @@ use Rattle.replay_runs.proofs.found.Legal as facts
 use Rattle.replay_runs.proofs.controls.meanings.Naming.{owner-below}
 use Rattle.collect_runs.proofs.starts.Owning.{note-found}
 use Rattle.collect_runs.proofs.forms.Finding.{few_tasks}
-use Rattle.collect_model.specs.aborts.Names.{acceptors_text, each_text, taken_text, refused_text, with_places, with_recorded}
+use Rattle.collect_model.specs.aborts.Names.{acceptors_text, each_text, with_recorded}
 use Rattle.collect_model.specs.aborts.AbortTeller.{names_told}
 use Rattle.collect_model.specs.aborts.Places.{most_places}
 use Rattle.collect_runs.specs.aborts.recorder.Recorders.{variable_names}
 use Rattle.collect_runs.specs.aborts.starts.Texts.{abort_text, recorder_of}
 use Rattle.collect_runs.specs.aborts.starts.Laws.{LegalHasNames}
+use Rattle.collect_structure.proofs.aborts.texts.Named.{places-begin}
+use Rattle.collect_runs.proofs.starts.Recorder.{all-apart}
 
 -- ---- names
-
--- the ids have these texts, one by one
-abbrev Say : List (List ℕ) → List NameId → List (List ℕ) → Type 0
-Say names [] [] = Unit {0}
-Say names (i ∷ is) (t ∷ ts) = (text_of names i ≡ t) × Say names is ts
-Say names is ts = ⊥
-
--- no text of the list stands in it twice
-abbrev all_differ : List (List ℕ) → Bool
-all_differ [] = true
-all_differ (t ∷ ts) = not (list_any (bytes_eq t) ts) && all_differ ts
-
-one-apart : (names : List (List ℕ)) (i : NameId) (a : List ℕ) → text_of names i ≡ a → (is : List NameId) (ts : List (List ℕ)) → Say names is ts → list_any (bytes_eq a) ts ≡ false →
-    AllByRecursion (λ (y : NameId). (i.0 == y.0) ≡ false) is
-one-apart names i a says [] [] all differ = tt
-one-apart names i a says (j ∷ is) (b ∷ ts) all differ =
-    let both = or_both (bytes_eq a b) (list_any (bytes_eq a) ts) differ in
-    (unequal i.0 j.0 (λ same. texts_differ a b both.0 (sym says ∙ ap (λ (n : ℕ). text_of names record { 0 = n }) same ∙ all.0)), one-apart names i a says is ts all.1 both.1)
-one-apart names i a says [] (b ∷ ts) all differ = absurd all
-one-apart names i a says (j ∷ is) [] all differ = absurd all
-
-all-apart : (names : List (List ℕ)) (is : List NameId) (ts : List (List ℕ)) → Say names is ts → all_differ ts ≡ true → AreApart is
-all-apart names [] [] all differ = tt
-all-apart names (i ∷ is) (t ∷ ts) all differ =
-    let both = and_both (not (list_any (bytes_eq t) ts)) (all_differ ts) differ in
-    (one-apart names i t all.0 is ts all.1 (not_true (list_any (bytes_eq t) ts) both.0), all-apart names is ts all.1 both.1)
-all-apart names [] (t ∷ ts) all differ = absurd all
-all-apart names (i ∷ is) [] all differ = absurd all
-
--- the names of places go behind
-places-begin : (names : List (List ℕ)) (n : ℕ) → Begins names (with_places names n)
-places-begin names zero = begins-refl names
-places-begin names (suc n) = begins-trans (places-begin names n) (fold-begins (taken_text (suc n) ∷ refused_text (suc n) ∷ []) (with_places names n))
 
 module _ (p : PProgram) (h : IsLegalOriginal p) where
   abbrev form_names : List (List ℕ)

@@ -20,7 +20,7 @@ use Rattle.task_laws.specs.translation.Controls.{task_in, Under, on_floor, in_bl
 use Rattle.normal_model.specs.Walk.{Rewriter, image_of, after_stmts, after_parts, rewritten}
 use Rattle.normal_laws.specs.runs.floors.NormalFloors.{no_floor}
 use Rattle.run_laws.specs.collecting.Copies.{telling}
-use Rattle.collect_model.specs.Teller.{Teller, task_of}
+use Rattle.collect_model.specs.Teller.{task_of}
 use Rattle.collect_runs.specs.translation.Floors.{CollectFloor, main_body, plain_body, handled_body, taken_handler, accept_body as collect_body, AtTelling, unit_over, unit_left, body_over, body_left}
 use Rattle.collect_runs.specs.telling.Meetings.{is_null_next}
 use Rattle.collect_runs.proofs.telling.Standing.{not-left}
@@ -98,9 +98,6 @@ TriesAlike {x} f t =
     KeepCallers (teller x t) (x.places t) (vars_of κ) ps → ActsAlike f t τ κ
 
 module _ (x : Texts) (can : CanTell x) (f : Form x) (t : ℕ) where
-  abbrev X : Teller
-  X = (teller x t).teller
-
   abbrev walk : Rewriter ℕ
   walk = abort_rewriter (teller x t)
 

@@ -8,7 +8,6 @@ use Rattle.event_machine.specs.Offers.{Calls, calls_in, is_conditional, is_timed
 use Rattle.ada_tree.specs.declared.naming.Span.{Span}
 use Rattle.ada_tree.specs.PlainExpr.{PExpr, EName}
 use Rattle.ada_tree.specs.PlainStmt.{PCall, PStmt, SRaise, SCall, SConditional, STimed, SBlock, PStmts, no_stmt, stmt_then, absent, present, PHandlers, body}
-use Rattle.ada_static_rules.specs.StaticValue.{is_integer_value}
 use Rattle.ada_value.specs.declared.values.Raised.{Raised}
 use Rattle.ada_value.specs.declared.values.Raised.TheVariants as raised
 use Rattle.ada_value.specs.declared.values.Value.{Value}
@@ -43,8 +42,8 @@ use Rattle.collect_runs.specs.telling.Texts.{IsInteger, IsCallAlike}
 use Rattle.collect_runs.specs.telling.Meetings.{ComesTo, HandBackAlike}
 use Rattle.collect_runs.proofs.telling.Noting.{here, later, literal}
 use Rattle.collect_runs.proofs.telling.Hearing.{cell-worth, part-test, parted, part-goes, if-goes}
-use Rattle.collect_runs.proofs.telling.Copying.{lists_old, copies_alike, CopiedAlike}
-use Rattle.collect_runs.proofs.telling.Calling.{CallsSo}
+use Rattle.replay_runs.proofs.controls.meanings.Called.{copies_alike, CopiedAlike, lists_old}
+use Rattle.collect_runs.proofs.telling.Calling.{CallsSo, fits_integer}
 use Rattle.collect_model.specs.aborts.Noting.{has_returned, returned_then}
 use Rattle.collect_model.specs.aborts.Calling.{is_part, parts_behind, plain_image, conditional_image, timed_image}
 use Rattle.run_laws.specs.aborts.Notes.{Note, BeforeCall, HasCallElse, HasExpired, HasFailed, HasReturned}
@@ -67,9 +66,6 @@ use Rattle.collect_runs.proofs.aborts.telling.Likening.{noting-like}
 use Rattle.collect_runs.proofs.aborts.telling.Copying.{copies-keep}
 use Rattle.collect_runs.proofs.aborts.telling.Moving.{laws, shut, floor-raised, added, added-there, row-comes, raise-comes, raise-comes-like}
 
-abbrev fits_integer : ℕ → Bool
-fits_integer n = is_integer_value (pos n)
-
 module _ (x : Texts) (can : CanTell x) (f : Form x) (t : ℕ) (ps : List OpenPlace) where
   abbrev y : Translation
   y = unit_translation x t ps
@@ -87,9 +83,6 @@ module _ (x : Texts) (can : CanTell x) (f : Form x) (t : ℕ) (ps : List OpenPla
   there v = variables-there (only_names x.programs) (teller x t) (x.places t) can.plainly.names ps v
 
   module _ (q q' : Around) (o o' : List PFrame) where
-    abbrev S : Variables → Variables → Type 0
-    S V W = Stays x t ps q q' o o' V W
-
     module _ (σ : Task) (own : f.plainly.IsSo t σ) where
       -- what the image keeps in its own variables leaves all as it was
       pub heard : (b : Bool) {V W : Variables} → Stays x t ps q q' o o' V W → Stays x t ps q q' o o' V (hearing x b W)

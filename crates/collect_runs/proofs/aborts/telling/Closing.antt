@@ -28,9 +28,10 @@ use Rattle.collect_runs.specs.aborts.telling.Meetings.{IsBased, IsOwing, ActsAli
 use Rattle.collect_runs.proofs.aborts.telling.Noting.{hearing, going}
 use Rattle.collect_runs.proofs.aborts.telling.Ending.{callers-alike, over-notes, hands-back}
 use Rattle.collect_runs.proofs.aborts.telling.Moving.{added-there, row-comes, raise-comes}
-use Rattle.collect_runs.proofs.aborts.telling.Placing.{formals-left, MeanSame, mean-turned, callers-kept, places-kept, mean-front}
+use Rattle.collect_runs.proofs.aborts.telling.Placing.{MeanSame, mean-turned, callers-kept, places-kept, mean-front}
 use Rattle.collect_runs.proofs.aborts.telling.Leaving.{finished-callers}
 use Rattle.collect_runs.proofs.aborts.telling.Turning.{Stays, has-variables, stays-heard, leaves-loop}
+use Rattle.collect_runs.proofs.telling.Ending.{formals-left}
 
 module _ (x : Texts) (can : CanTell x) (f : Form x) (t : ℕ) (added : ArePlacesAdded x.programs (teller x t) (x.places t)) (i : List ℤ) (w : List ℕ) (p : OpenPlace) (ps : List OpenPlace)
     (a : OpenAccept (unit_translation x t ps) (teller x t) p) where

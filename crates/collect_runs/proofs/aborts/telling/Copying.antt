@@ -1,5 +1,5 @@
 -- Values that come back to a call leave the variables of places alone: they go to variables of old names.
-use Rattle.std.proofs.Common.{◌≡◌, ◌==◌, false, List, [], ◌∷◌, Option, Some, None, Result, Ok, Err, refl, ◌∙◌}
+use Rattle.std.proofs.Common.{◌≡◌, ◌==◌, false, List, [], ◌∷◌, Option, Result, Ok, Err, refl, ◌∙◌, Some, None}
 use Rattle.ada_tree.specs.declared.naming.NameId.{NameId}
 use Rattle.ada_tree.specs.declared.statements.ParMode.{ParMode}
 use Rattle.ada_tree.specs.declared.statements.ParMode.TheVariants.{Take, Give, Both}
@@ -9,7 +9,7 @@ use Rattle.ada_value.specs.declared.values.Value.{Value}
 use Rattle.ada_value.specs.Values.{and_then}
 use Rattle.ada_value.specs.Variables.{Variables, object_named, checked_for, set_value}
 use Rattle.task_model.specs.declared.parameters.FormalParameter.{FormalParameter}
-use Rattle.task_model.specs.Calls.{Copies, variable_of, stored_back, copies_on, copied_one, copied_back}
+use Rattle.task_model.specs.Calls.{Copies, stored_back, copies_on, copied_one, copied_back, variable_of}
 use Rattle.task_laws.specs.translation.Translations.{Programs, IsOld}
 use Rattle.task_laws.specs.translation.OldNames.{OldExpr, old_integer, old_name, old_index, old_attribute, old_attribute_of, old_paren, old_unary, old_binary}
 use Rattle.task_laws.specs.translation.OldTexts.{OldExprs, old_no_expr, old_expr}

@@ -1,5 +1,5 @@
 -- Notes of the own task, ends of units, and ends of accept bodies: whose callers are served, and what is handed back.
-use Rattle.std.proofs.Common.{◌≡◌, ℕ, ℤ, pos, Bool, true, false, List, [], ◌∷◌, ◌++◌, Option, None, refl, ap}
+use Rattle.std.proofs.Common.{◌≡◌, ℕ, ℤ, pos, Bool, List, [], ◌∷◌, Option, None, refl, ap}
 use Rattle.ada_tree.specs.declared.naming.Span.{Span}
 use Rattle.ada_tree.specs.PlainExpr.{EName}
 use Rattle.ada_tree.specs.PlainStmt.{PStmts, no_stmt, stmt_then, PHandlers, no_handler}
@@ -7,17 +7,13 @@ use Rattle.ada_value.specs.declared.values.Value.{Value}
 use Rattle.ada_value.specs.declared.values.Value.TheVariants.{Number}
 use Rattle.ada_value.specs.declared.values.Raised.{Raised}
 use Rattle.ada_value.specs.Values.{integer_limits}
-use Rattle.ada_value.specs.Variables.{Object, Variables, value_there}
-use Rattle.task_model.specs.declared.parameters.FormalParameter.{FormalParameter}
-use Rattle.task_model.specs.Frames.{Around, OwnBody, PFrame, control, caller_at, callers_among}
+use Rattle.ada_value.specs.Variables.{Variables}
+use Rattle.task_model.specs.Frames.{Around, OwnBody, PFrame, control}
 use Rattle.task_model.specs.Tasks.{Task}
-use Rattle.task_model.specs.Calls.{comes_back, finals_if, finals_in}
-use Rattle.task_laws.specs.translation.Translations.{Programs, IsKnown}
 use Rattle.task_laws.specs.translation.OldTexts.{only_names}
 use Rattle.task_laws.specs.translation.Controls.{task_in, Under, on_floor, in_block, in_handler, in_endless, in_while, in_count}
 use Rattle.normal_model.specs.Making.{one}
-use Rattle.normal_laws.specs.runs.floors.Meetings.{AreValues, no_value, value_then}
-use Rattle.normal_laws.specs.runs.floors.NormalFloors.{AreOpen, none_open, open_then, no_floor}
+use Rattle.normal_laws.specs.runs.floors.NormalFloors.{no_floor}
 use Rattle.normal_laws.specs.runs.floors.Preludes.{IsCell}
 use Rattle.collect_model.specs.Noting.{at_finish, at_end, number, own_number, own_note}
 use Rattle.collect_runs.specs.translation.Floors.{HasVariables, CollectFloor, main_body, plain_body, handled_body, taken_handler, accept_body as collect_body}
@@ -25,7 +21,6 @@ use Rattle.collect_runs.specs.telling.Texts.{IsInteger}
 use Rattle.collect_runs.specs.telling.Meetings.{ComesTo, HandBackAlike}
 use Rattle.collect_runs.proofs.telling.Noting.{here, literal, zero-told}
 use Rattle.collect_runs.proofs.telling.Hearing.{cell-worth}
-use Rattle.collect_model.specs.aborts.AbortTeller.{AbortTeller}
 use Rattle.collect_model.specs.aborts.Noting.{over}
 use Rattle.run_laws.specs.aborts.Notes.{Note, HasFinished, AtEnd}
 use Rattle.collect_runs.specs.aborts.recorder.Telling.{member_of, spelled}
@@ -35,34 +30,11 @@ use Rattle.collect_runs.specs.aborts.telling.Texts.{Texts, form, text, teller, u
 use Rattle.collect_runs.specs.aborts.telling.Forms.{Form}
 use Rattle.collect_runs.specs.aborts.telling.Meetings.{IsNoting, IsLeaving}
 use Rattle.collect_runs.proofs.aborts.telling.Noting.{hearing, going, notes}
-
--- ---- what comes back
-
-finals-one : (b : Bool) (o : Object) (vs ws : List Value) → vs ≡ ws → finals_if b o vs ≡ finals_if b o ws
-finals-one true o vs ws e = ap (λ us. finals_if true o us) e
-finals-one false o vs ws e = e
-
-finals-same : {b : Programs} {fs : List FormalParameter} {bs : List Object} → AreOpen b fs bs → (V V' : Variables) → finals_in fs (bs ++ V) ≡ finals_in fs (bs ++ V')
-finals-same none_open V V' = refl
-finals-same (open_then f o fs os old known h) V V' = finals-one (comes_back f.mode) o (finals_in fs (os ++ V)) (finals_in fs (os ++ V')) (finals-same h V V')
-
-known-one : (b : Programs) (c : Bool) (o : Object) (vs : List Value) → IsKnown b (value_there o 0) → AreValues b vs → AreValues b (finals_if c o vs)
-known-one b true o vs known h = value_then (value_there o 0) vs known h
-known-one b false o vs known h = h
-
-finals-known : {b : Programs} {fs : List FormalParameter} {bs : List Object} → AreOpen b fs bs → (V : Variables) → AreValues b (finals_in fs (bs ++ V))
-finals-known none_open V = no_value
-finals-known {b} (open_then f o fs os old known h) V = known-one b (comes_back f.mode) o (finals_in fs (os ++ V)) (known.0 0) (finals-known h V)
+use Rattle.collect_runs.proofs.telling.Ending.{finals-same, finals-known, callers_of}
 
 -- ---- callers
 
-abbrev callers_of : Around → List PFrame → List ℕ
-callers_of q o = caller_at q ++ callers_among o
-
 module _ (x : Texts) (t : ℕ) where
-  abbrev X : AbortTeller
-  X = teller x t
-
   unit-callers : {q q' : Around} {o o' : List PFrame} {V V' : Variables} →
       CollectFloor (telling_rows (only_names x.programs) (teller x t) 0 (x.places t)) (teller x t).teller no_floor q o V q' o' V' →
       callers_of q' o' ≡ callers_of q o

@@ -8,9 +8,7 @@ use Rattle.task_model.specs.Setting.{Setting}
 use Rattle.task_model.specs.Frames.{Around, OwnBody, Block, Handling, Loop, Opened, PFrame, Control, control, settled, settled_in, handler_for, unit_with, block_with, raised_in, caller_at, callers_among, callers_in}
 use Rattle.task_model.specs.Rendezvous.{finished}
 use Rattle.task_laws.specs.translation.Controls.{frame, task_in}
-
-abbrev callers_of : Around → List PFrame → List ℕ
-callers_of q o = caller_at q ++ callers_among o
+use Rattle.collect_runs.proofs.telling.Ending.{callers_of}
 
 pub settled-callers : (o : List PFrame) (r : PStmts) (q : Around) (V : Variables) → callers_in (settled_in o r q V) ≡ caller_at q ++ callers_among o
 settled-callers o (stmt_then s r) q V = refl

@@ -18,7 +18,6 @@ use Rattle.normal_laws.specs.runs.floors.NormalFloors.{no_floor}
 use Rattle.collect_runs.specs.translation.Floors.{ends_unit, unit_frame, unit_block, CollectFloor, main_body, plain_body, handled_body, taken_handler, accept_body as collect_body, AtTelling, unit_over, unit_left, body_over, body_left}
 use Rattle.collect_runs.specs.telling.Meetings.{ComesTo}
 use Rattle.collect_runs.proofs.telling.Standing.{is_plain, plain, not-left}
-use Rattle.collect_model.specs.aborts.AbortTeller.{AbortTeller}
 use Rattle.collect_runs.specs.aborts.translation.Rows.{Telling, telling_none, telling_then, telling_rows}
 use Rattle.collect_runs.specs.aborts.translation.Floors.{OpenPlace, innermost, BodyFloor, accept_body, floor_at, beyond_at, ArePlacesAdded, HasPlaces, KeepCallers}
 use Rattle.collect_runs.proofs.aborts.translation.Carried.{translates, abort_is_closed}
@@ -38,9 +37,6 @@ unit-vars None e hs o V = refl
 unit-vars (Some l) e hs o V = refl
 
 module _ (x : Texts) (can : CanTell x) (t : ℕ) where
-  abbrev X : AbortTeller
-  X = teller x t
-
   main-raised : (e : Raised) (hs : PHandlers) (taken : Option Raised) (V : Variables) → (raised_in e [] (OwnBody hs taken) V).vars ≡ V
   main-raised e hs None V = unit-vars (handler_for e hs) e hs [] V
   main-raised e hs (Some y) V = refl

@@ -1,6 +1,6 @@
 -- An accept body opens: the acceptor keeps its caller, tells that the call has been accepted, and keeps the answer. Where the caller is served both are in
 -- the body then; where it is refused the image is at the end of its body, and as that has ended it is at its try again.
-use Rattle.std.proofs.Common.{arith, ◌≡◌, ◌≤◌, ◌<◌, ◌==◌, ℕ, ℤ, pos, Bool, true, false, if◌then◌else◌, cond, List, [], ◌∷◌, ◌++◌, Some, None, Ok, Err, refl, sym, ap, subst, ◌∙◌}
+use Rattle.std.proofs.Common.{arith, ◌≡◌, ◌≤◌, ◌<◌, ◌==◌, ℕ, ℤ, pos, Bool, true, false, if◌then◌else◌, cond, List, ◌∷◌, ◌++◌, Some, None, Ok, Err, refl, sym, ap, subst, ◌∙◌}
 use Rattle.common_lemmas.proofs.Numbers.{equal_self, unequal_turned}
 use Rattle.ada_tree.specs.declared.naming.NameId.{NameId}
 use Rattle.ada_tree.specs.declared.naming.Span.{Span}
@@ -11,23 +11,17 @@ use Rattle.ada_value.specs.declared.values.Value.TheVariants.{Number, Truth}
 use Rattle.ada_value.specs.declared.values.Raised.TheVariants as raised
 use Rattle.ada_value.specs.Variables.{Variables, object_named, value_there, set_value}
 use Rattle.ada_value.specs.Evaluating.{name_value, evaluated}
-use Rattle.ada_value.specs.Values.{lower_bound, checked, integer_limits, truth_limits}
+use Rattle.ada_value.specs.Values.{integer_limits, truth_limits}
 use Rattle.task_model.specs.declared.parameters.FormalParameter.{FormalParameter}
 use Rattle.task_model.specs.Setting.{entry_of}
 use Rattle.task_model.specs.Frames.{Endless, Block, Loop, Opened, PFrame, control, settled, callers_in, caller_at, callers_among}
 use Rattle.task_model.specs.Tasks.{Task, stmts_or_none, gone_to}
-use Rattle.task_model.specs.Calls.{opened_object, opened_objects}
 use Rattle.task_model.specs.Rendezvous.{accepted}
-use Rattle.task_laws.specs.translation.Translations.{Programs, Rewriting, Translation, types_before, types_after}
-use Rattle.task_laws.specs.translation.Scopes.{AgreeOnTypes}
 use Rattle.task_laws.specs.translation.OldTexts.{only_names}
 use Rattle.task_laws.specs.translation.Images.{ImageMaybe, image_absent, image_present}
 use Rattle.task_laws.specs.translation.Controls.{frame, task_in, Under, on_floor, inside, alike}
-use Rattle.task_laws.proofs.translation.Evaluating.{single-known}
 use Rattle.normal_model.specs.Making.{one}
 use Rattle.normal_model.proofs.WalkLemmas.{in_front-nil}
-use Rattle.normal_laws.specs.runs.floors.Meetings.{AreNamed, none_named, named_then, AreValues, no_value, value_then}
-use Rattle.normal_laws.specs.runs.floors.NormalFloors.{AreOpen, none_open, open_then}
 use Rattle.normal_laws.specs.runs.floors.Preludes.{IsCell, Reaches, reaches_here}
 use Rattle.normal_laws.proofs.runs.floors.Cells.{named-set_other, cell-set, cell-kept}
 use Rattle.collect_model.specs.Noting.{has_begun, number as number_at}
@@ -49,61 +43,25 @@ use Rattle.collect_runs.specs.aborts.telling.Meetings.{IsBased, IsNoting, IsRefu
 use Rattle.collect_runs.proofs.aborts.telling.Noting.{hearing, notes}
 use Rattle.collect_runs.proofs.aborts.telling.Ending.{callers-alike}
 use Rattle.collect_runs.proofs.aborts.telling.Pairs.{comes}
-use Rattle.collect_runs.proofs.aborts.telling.Placing.{formals-left, MeanSame, callers-kept, places-kept, answer-set, taken-set, refused-set, passed-front, set-front, mean-front}
+use Rattle.collect_runs.proofs.aborts.telling.Placing.{MeanSame, callers-kept, places-kept, answer-set, taken-set, refused-set, passed-front, set-front, mean-front}
 use Rattle.collect_runs.proofs.aborts.telling.Going.{assign-goes, refused-worth}
 use Rattle.collect_runs.proofs.aborts.telling.Turning.{Stays, has-variables, stays-set, stays-heard, tries-on}
+use Rattle.collect_runs.proofs.telling.Opening.{opened-settled}
+use Rattle.collect_runs.proofs.recorder.Finding.{truth-checked}
+use Rattle.collect_runs.proofs.telling.Ending.{formals-left}
 
 -- ---- formals that open
-
-module _ (b : Programs) (types : AgreeOnTypes b) where
-  pub opened-known : {fs : List FormalParameter} → AreNamed b fs → {vs : List Value} → AreValues b vs → AreOpen b fs (opened_objects (types_before b) fs vs)
-  opened-known none_named h = none_open
-  opened-known (named_then f fs old free k) no_value =
-      open_then f _ fs _ old (single-known b types f.name f.limits None (lower_bound (types_before b) f.limits) free (types.values_known f.limits.kind f.limits.first)) (opened-known k no_value)
-  opened-known (named_then f fs old free k) (value_then v vs known h) = open_then f _ fs _ old (single-known b types f.name f.limits None v free known) (opened-known k h)
-
-  pub opened-same : (fs : List FormalParameter) (vs : List Value) → opened_objects (types_before b) fs vs ≡ opened_objects (types_after b) fs vs
-  opened-same [] vs = refl
-  opened-same (f ∷ fs) [] =
-      ap (λ v. opened_object f v ∷ opened_objects (types_before b) fs []) (types.values f.limits.kind f.limits.first)
-      ∙ ap (λ os. opened_object f (lower_bound (types_after b) f.limits) ∷ os) (opened-same fs [])
-  opened-same (f ∷ fs) (v ∷ vs) = ap (λ os. opened_object f v ∷ os) (opened-same fs vs)
-
--- an answer is a value of BOOLEAN
-answer-fits : (d : Bool) → checked truth_limits (Truth d) ≡ Ok (Truth d)
-answer-fits true = refl
-answer-fits false = refl
-
--- the statements of an accept body stay, though they be over
-opened-left : (l : PStmts) (c : ℕ) (fs : List FormalParameter) (o : List PFrame) (V : Variables) → settled (control l (Opened c fs None) o V) ≡ control l (Opened c fs None) o V
-opened-left no_stmt c fs [] V = refl
-opened-left no_stmt c fs (part ∷ parts) V = refl
-opened-left (stmt_then s l) c fs o V = refl
 
 module _ (x : Texts) (can : CanTell x) (f : Form x) (t : ℕ) (added : ArePlacesAdded x.programs (teller x t) (x.places t)) (i : List ℤ) (w : List ℕ) (p : OpenPlace) (ps : List OpenPlace)
     (after : innermost ps < p.place) (upto : p.place ≤ x.places t) where
   abbrev X : AbortTeller
   X = teller x t
 
-  abbrev b : Programs
-  b = x.programs
-
-  abbrev Z : Translation
-  Z = unit_translation x t ps
-
   is-place : IsPlace (x.places t) p.place
   is-place = (omega (arith, after), upto)
 
-  -- the rows in the accept body
-  abbrev Inner : Rewriting
-  Inner = telling_rows (only_names x.programs) (teller x t) p.place (x.places t)
-
   abbrev Standing : PStmts → List FormalParameter → List PFrame → Variables → Task
   Standing r fs o V = task_in (text x) t i w (control r (Opened p.caller fs None) o V)
-
-  -- the image in its accept body, before these statements
-  abbrev body : OpenAccept (unit_translation x t ps) (teller x t) p → PStmts → Task
-  body a r = Standing r (formals_there a) (frames_outside a) (vars_there a)
 
   -- the accept with these variables of the image below it
   module _ (a : OpenAccept (unit_translation x t ps) (teller x t) p) where
@@ -137,7 +95,7 @@ module _ (x : Texts) (can : CanTell x) (f : Form x) (t : ℕ) (added : ArePlaces
             paired = record {
               own = own;
               alike = alike t i w _ _ (inside (stmts_or_none m) (stmts_or_none m') (row-of img) (on_floor (accept_body (over U s) None)));
-              left = opened-left (stmts_or_none m') p.caller (formals_there a) (frames_outside a) (a.own ∷ (a.objects ++ U));
+              left = opened-settled (stmts_or_none m') p.caller (formals_there a) (frames_outside a) (a.own ∷ (a.objects ++ U));
               places = places-kept x.programs X (x.places t) (means (x.places t)) s.places;
               keeps =
                   keep_then p ps after upto (cell-kept U there _ _ _ ((means (x.places t)).taken p.place is-place upto) taken)
@@ -229,7 +187,7 @@ module _ (x : Texts) (can : CanTell x) (f : Form x) (t : ℕ) (added : ArePlaces
             if-goes (plain x) t i w (Opened p.caller (formals_there a) None) (frames_outside a) (is_not_refused X zz p.place) l absent zz no_stmt V false (refused-worth x t i w X zz p.place V true c)
         unless-goes (present l) false V c =
             subst (Reaches (gone (unless_refused X zz p.place (present l)) V))
-            (ap (λ r. gone r V) (in_front-nil l) ∙ ap (λ q. task_in (text x) t i w q) (opened-left l p.caller (formals_there a) (frames_outside a) V))
+            (ap (λ r. gone r V) (in_front-nil l) ∙ ap (λ q. task_in (text x) t i w q) (opened-settled l p.caller (formals_there a) (frames_outside a) V))
             (if-goes (plain x) t i w (Opened p.caller (formals_there a) None) (frames_outside a) (is_not_refused X zz p.place) l absent zz no_stmt V true
             (refused-worth x t i w X zz p.place V false c))
 
@@ -251,7 +209,7 @@ module _ (x : Texts) (can : CanTell x) (f : Form x) (t : ℕ) (added : ArePlaces
             (gone (stmt_then (variable_is zz (x.main.refused p.place) x.main.teller.added.answer) (unless_refused X zz p.place m')) V))
             (sym (set-front x.programs X (x.places t) added a.own a.named a.are_open W1 x.main.teller.added.answer 0 (Truth d) can.plainly.names.answer can.plainly.names.caller_answer))
             (later (assign-goes x t i w zz (x.main.refused p.place) x.main.teller.added.answer truth_limits _ (Truth d) (unless_refused X zz p.place m') (Opened p.caller (formals_there a) None)
-            (frames_outside a) (front (W2 d)) refused-cell answer-worth (answer-fits d))
+            (frames_outside a) (front (W2 d)) refused-cell answer-worth (truth-checked d))
             (subst (λ V. ComesTo (IsBehind f (done_by (program_of x) t d (Begun p.caller e z v) σ)) (gone (unless_refused X zz p.place m') V))
             (sym (set-front x.programs X (x.places t) added a.own a.named a.are_open (W2 d) (x.main.refused p.place) 0 (Truth d) (added.refused p.place is-place)
             (added.caller_refused p.place is-place)))

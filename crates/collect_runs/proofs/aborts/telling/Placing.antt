@@ -1,7 +1,6 @@
 -- The variables of places: what is said of them stays where they mean the same, whatever goes to variables of other names, and behind the formals of an
 -- accept body as in front of them.
 use Rattle.std.proofs.Common.{true≢false, arith, ◌≡◌, ℕ, ◌<◌, ◌≤◌, Bool, true, false, cond, ◌==◌, if◌then◌else◌, List, [], ◌∷◌, ◌++◌, Some, refl, sym, ap, ◌∙◌}
-use Rattle.std.proofs.Common.{drop, length}
 use Rattle.std.proofs.lemmas.Bool.{eqb-true}
 use Rattle.common_lemmas.proofs.Numbers.{unequal_above, unequal_turned}
 use Rattle.ada_tree.specs.declared.naming.NameId.{NameId}
@@ -43,10 +42,6 @@ pub set-formals : (b : Programs) {fs : List FormalParameter} {bs : List Object} 
 set-formals b none_open W id k v fresh = refl
 set-formals b (open_then f o fs os old known h) W id k v fresh =
     set-one o (os ++ W) id k v (old-apart b o old id fresh) ∙ ap (λ (U : Variables). o ∷ U) (set-formals b h W id k v fresh)
-
-pub formals-left : {b : Programs} {fs : List FormalParameter} {bs : List Object} → AreOpen b fs bs → (V : Variables) → drop (length fs) (bs ++ V) ≡ V
-formals-left none_open V = refl
-formals-left (open_then f o fs os old known h) V = formals-left h V
 
 module _ (b : Programs) (x : AbortTeller) (last : ℕ) where
   -- ---- variables that mean the same

@@ -45,7 +45,8 @@ use Rattle.collect_runs.specs.aborts.telling.Texts.{Texts, plain, form, text, te
 use Rattle.collect_runs.specs.aborts.telling.Forms.{Form}
 use Rattle.collect_runs.specs.aborts.telling.Meetings.{at_try, they_try, IsBased, IsOwing}
 use Rattle.collect_runs.proofs.aborts.telling.Moving.{laws, added-there}
-use Rattle.collect_runs.proofs.aborts.telling.Opening.{opened-known, opened-same, begins-owes}
+use Rattle.collect_runs.proofs.aborts.telling.Opening.{begins-owes}
+use Rattle.collect_runs.proofs.telling.Opening.{opened-known, opened-same}
 
 -- no variables are added as by a normal form
 no_variables : (x : Texts) → Added x.programs (form x)
@@ -66,9 +67,6 @@ module _ (x : Texts) (can : CanTell x) (f : Form x) (t : ℕ) (ps : List OpenPla
 
   abbrev σ : Task
   σ = task_in (form x) t i w (control (stmt_then st r) q o V)
-
-  abbrev κ : Task
-  κ = task_in (text x) t i w (control (one st') (Block (ends_service (teller x t) s0 n)) (frame (one (SExit None (Some test) s0)) (Loop None Endless turn) ∷ frame after q' ∷ o') W)
 
   module _ (z : ℤ) (h : PHead) (m m' : PMaybe) (l inner row' : PStmts) (s : Span) (old : OldFormals x.programs h.formals)
       (img : ImageMaybe (telling_rows (only_names x.programs) (teller x t) n (x.places t)) m m') (heads : (U : Variables) → SeeAlike x.programs V U → IsHeadAlike (plain x) t h V U)

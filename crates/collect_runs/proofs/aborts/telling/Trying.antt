@@ -1,17 +1,16 @@
 -- The image of an accept or a selective wait comes to its try by two local steps: into its loop, and into its block.
 use Rattle.std.proofs.Common.{◌≡◌, ℕ, ℤ, ◌+◌, ◌≤◌, false, List, refl, sym, subst}
 use Rattle.ada_tree.specs.declared.naming.Span.{Span}
-use Rattle.ada_tree.specs.PlainStmt.{SAccept, SWait, PStmts, no_stmt, stmt_then, PMaybe, PAccept, alternative, PAlts, no_alt, alt_then}
+use Rattle.ada_tree.specs.PlainStmt.{SAccept, SWait, PStmts, stmt_then, PMaybe, PAccept, PAlts}
 use Rattle.ada_value.specs.Variables.{Variables}
 use Rattle.task_model.specs.Frames.{Around, PFrame, control, in_front}
 use Rattle.task_model.specs.Stands.{can_step}
 use Rattle.task_laws.specs.translation.OldTexts.{only_names, OldStmt}
 use Rattle.task_laws.specs.translation.Controls.{task_in, Under}
-use Rattle.normal_model.specs.Walk.{Rewriter, after_parts, after_kind, after_alts, alts_leads, inside_alts, inside_maybe, image_of}
+use Rattle.normal_model.specs.Walk.{Rewriter, after_parts, after_alts, inside_alts, inside_maybe, image_of}
 use Rattle.normal_laws.specs.runs.floors.Preludes.{reaches_here, reaches_by}
 use Rattle.collect_runs.specs.telling.Meetings.{ComesTo}
 use Rattle.collect_model.specs.aborts.Places.{with_place}
-use Rattle.collect_model.specs.aborts.AbortTeller.{AbortTeller}
 use Rattle.collect_model.specs.aborts.AbortStmts.{abort_rewriter}
 use Rattle.collect_model.specs.aborts.Waiting.{wait_image}
 use Rattle.collect_runs.specs.aborts.translation.Rows.{Telling}
@@ -19,11 +18,7 @@ use Rattle.collect_runs.specs.aborts.translation.Floors.{OpenPlace, innermost, H
 use Rattle.collect_runs.specs.aborts.telling.Texts.{Texts, form, text, teller, unit_translation}
 use Rattle.collect_runs.specs.aborts.telling.Forms.{Form}
 use Rattle.collect_runs.specs.aborts.telling.Meetings.{at_try, StandAlike, they_try}
-
--- nothing stands in front of a wait
-no-leads : (x : AbortTeller) (alts : PAlts) (n : ℕ) → alts_leads (abort_rewriter x) alts n ≡ no_stmt
-no-leads x no_alt n = refl
-no-leads x (alt_then (alternative g k s) rest) n = no-leads x rest (after_kind (abort_rewriter x) k n)
+use Rattle.collect_structure.proofs.aborts.asked.Kept.{no-leads}
 
 module _ (x : Texts) (t : ℕ) (ps : List OpenPlace) (i : List ℤ) (w : List ℕ) (r r' : PStmts) (im : Telling (only_names x.programs) (teller x t) (innermost ps) (x.places t) r r')
     {q q' : Around} {o o' : List PFrame} {V W : Variables} (v : Under (unit_translation x t ps) q o V q' o' W) (n : ℕ) (from : innermost ps ≤ n)

@@ -26,6 +26,7 @@ use Rattle.collect_runs.specs.aborts.translation.Laws.{AbortTranslates, AbortIsC
 use Rattle.collect_runs.proofs.aborts.translation.Counting.{at-most, grows_stmts, grows_handlers, same_body}
 use Rattle.collect_runs.proofs.aborts.translation.Rows.{rows, handler-rows, are-images}
 use Rattle.collect_runs.proofs.aborts.translation.Floors.{is-translation, is-closed, variables-there}
+use Rattle.collect_runs.proofs.translation.Carried.{own-settled}
 
 pub translates : (a : Asked) (x : AbortTeller) (last : ℕ) (ps : List OpenPlace) → AreNamesAdded a.programs x.teller.added → AgreeOnTypes a.programs → IsTranslation (into_aborting a x last ps)
 translates a x last ps new types = is-translation a x last new types ps
@@ -47,10 +48,6 @@ pub abort_keeps_variables : AbortKeepsVariables
 abort_keeps_variables b x last ps new σ κ (are_around n i w r r' f) = variables-there (only_names b) x last new ps f
 
 -- ---- the start
-
-own-settled : (hs : PHandlers) (l : PStmts) (V : Variables) → settled (control l (OwnBody hs None) [] V) ≡ control l (OwnBody hs None) [] V
-own-settled hs no_stmt V = refl
-own-settled hs (stmt_then s l) V = refl
 
 -- where a block's statements are over the task goes on outside of it, with the same variables
 block-vars : (l : PStmts) (hs : PHandlers) (y : PStmt) (r : PStmts) (q : Around) (o : List PFrame) (V : Variables) → (settled (control l (Block hs) (frame (stmt_then y r) q ∷ o) V)).vars ≡ V

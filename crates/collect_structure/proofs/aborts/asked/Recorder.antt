@@ -1,9 +1,7 @@
 -- The recorder's body in a text with abort statements is as asked, from its pieces.
 use Rattle.std.proofs.Common.{ℕ, ◌+◌, ◌≤◌, true, false, List, [], ◌∷◌, codes, length, None, Some, arith}
 use Rattle.std.specs.List.{AllByRecursion}
-use Rattle.std.proofs.lemmas.List.Elements.{All-from_recursion}
 use Rattle.ada_tree.specs.declared.naming.Span.{Span}
-use Rattle.ada_tree.specs.Lexical.{IsStringContent}
 use Rattle.ada_tree.specs.PlainExpr.{EName}
 use Rattle.syn_event.specs.declared.numbering.TaskInfo.{TaskInfo}
 use Rattle.task_model.specs.Frames.{in_front}
@@ -19,19 +17,13 @@ use Rattle.collect_structure.specs.asked.Recorder.{note_head}
 use Rattle.collect_model.specs.aborts.AbortTeller.{AbortTeller}
 use Rattle.collect_model.specs.aborts.Recording.{met_before, stands_now, on_before_call, on_begun, on_finish, acceptor_line, on_back, callers_lost, aborts_from, abort_made, on_abort, branches, note_taken}
 use Rattle.collect_structure.specs.aborts.asked.Recorder.{recorder_its, abortable, each_task, RecorderPieces}
-
--- a letter and a blank can stand in a string
-letter : (b : ℕ) → 32 ≤ b → b ≤ 126 → IsStringContent (b ∷ [])
-letter b low high = (All-from_recursion (λ (c : ℕ). (32 ≤ c) × (c ≤ 126)) (b ∷ []) ((low, high), tt), omega arith)
+use Rattle.collect_structure.proofs.asked.Recorder.{letter}
 
 module _ {D : Type 0} (x : AbortTeller) (s : Span) (header : List ℕ) (a : Asks D) (d : D)
     (P : RecorderPieces x s header a d (a.accepting (a.looping d None None) (note_head x.teller.added s))
     (a.looping (a.accepting (a.looping d None None) (note_head x.teller.added s)) None (Some (each_task x s)))) where
   abbrev e : D
   e = a.accepting (a.looping d None None) (note_head x.teller.added s)
-
-  abbrev f : D
-  f = a.looping e None (Some (each_task x s))
 
   abbrev n : AddedNames
   n = x.teller.added

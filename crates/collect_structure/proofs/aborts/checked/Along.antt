@@ -33,9 +33,9 @@ use Rattle.collect_model.specs.Teller.{task_of}
 use Rattle.collect_model.specs.CollectTree.{flags_type, main_declared, behind_own, task_telling}
 use Rattle.collect_structure.specs.Names as names
 use Rattle.collect_structure.specs.checked.Checkable.{IsOtherThanTruths, HasFewFormals}
-use Rattle.collect_structure.proofs.checked.Stays.{IsFormMet, stay-out}
+use Rattle.collect_structure.proofs.checked.Stays.{stay-out}
 use Rattle.collect_structure.proofs.checked.Along.{flags-met, int-io-met}
-use Rattle.collect_structure.proofs.checked.Bodies.{frame-object, use-object}
+use Rattle.collect_structure.proofs.checked.Bodies.{use-object}
 use Rattle.replay_structure.proofs.checked.Plain.{plain-decl, object-stays}
 use Rattle.collect_structure.proofs.checked.Tasks.{task-met}
 use Rattle.collect_model.specs.aborts.Places.{places_of, places_in, most_places}
@@ -46,12 +46,15 @@ use Rattle.collect_structure.specs.aborts.scopes.Text.{main_told}
 use Rattle.collect_structure.specs.aborts.checked.Around.{kept_names, IsStaying}
 use Rattle.collect_structure.proofs.aborts.asked.Walk.{main-keeps, task-keeps}
 use Rattle.collect_structure.proofs.aborts.checked.Added.{IsTrueThere, IsFine, fine-decl, mine-fine}
-use Rattle.collect_structure.proofs.aborts.checked.Alike.{AreAlike}
+use Rattle.collect_structure.proofs.checked.Alike.{AreAlike}
 use Rattle.collect_structure.proofs.aborts.checked.Asked.{y, H, R, S, a, b, pieces}
 use Rattle.collect_structure.proofs.aborts.checked.Before.{AreBefore, same-there, plain-before, object-before, task-before, uses-there}
 use Rattle.collect_structure.proofs.aborts.checked.Bodies.{AreBehindTasks, mine, object-alike, new-object-alike, body-around}
 use Rattle.collect_structure.proofs.aborts.checked.Names.{longer}
 use Rattle.collect_structure.proofs.aborts.checked.Stays.{IsTextMet, UsesStay, stay-out as abort-out}
+use Rattle.replay_structure.proofs.checked.Stays.{IsFormMet}
+use Rattle.replay_structure.proofs.checked.Bodies.{frame-object}
+use Rattle.collect_structure.specs.aborts.Names.{kept_name}
 
 -- ---- declarations in front of the bodies
 
@@ -205,7 +208,7 @@ module _ (g : Setting) where
   -- ---- the objects of a body
 
   record AreInside (c0 d0 c d : CheckScope) : Type 0 where
-    alike : AreAlike p c d
+    alike : AreAlike (kept_name p) c d
     left : IsFrameOf c0 c
     right : IsFrameOf d0 d
     owned : (spans : List Span) → in_body_of d.own spans ≡ in_body_of c.own spans

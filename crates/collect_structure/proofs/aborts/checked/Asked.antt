@@ -1,9 +1,8 @@
 -- Each piece of a collecting text of a program with abort statements meets the rules 13 to 23.
-use Rattle.std.proofs.Common.{◌≡◌, ℕ, ◌+◌, ◌≤◌, ◌==◌, ◌||◌, Bool, true, false, List, [], ◌∷◌, length, slice_get, unwrap_or, Option, Some, None, IfSome, refl, sym, ap, subst, arith}
-use Rattle.std.specs.List.{AllByRecursion, list_any}
+use Rattle.std.proofs.Common.{◌≡◌, ℕ, ◌+◌, ◌≤◌, Bool, true, false, List, [], ◌∷◌, length, slice_get, unwrap_or, Option, Some, None, IfSome, refl, sym, subst, arith}
+use Rattle.std.specs.List.{AllByRecursion}
 use Rattle.std.proofs.lemmas.List.Elements.{recursion_from_All}
 use Rattle.common_lemmas.proofs.Lists.{all_front, all_back, all_joined}
-use Rattle.common_lemmas.proofs.Numbers.{equal_self}
 use Rattle.ada_tree.specs.declared.naming.NameId.{NameId}
 use Rattle.ada_tree.specs.declared.naming.Span.{Span}
 use Rattle.ada_tree.specs.declared.static_types.Kind.{Kind}
@@ -28,14 +27,12 @@ use Rattle.normal_model.specs.Calls.{entry_called, lists_called}
 use Rattle.normal_laws.proofs.structure.checked.Places.{met-deep, met-callee, met-exit, met-wait, met-raise, met-use}
 use Rattle.replay_model.specs.Asking.{as_number, number_in, member_number}
 use Rattle.replay_structure.specs.checked.Around.{form_asks}
-use Rattle.replay_structure.proofs.checked.Scopes.{uses-under, inner-use}
 use Rattle.collect_model.specs.Names.{caller_text, recorder_text, collect_names, added_in}
 use Rattle.collect_model.specs.Teller.{Teller, task_of}
 use Rattle.collect_model.specs.Noting.{has_delay, has_failed, number, own_number, note_actuals}
 use Rattle.collect_model.specs.Calling.{member_called, args_with}
 use Rattle.collect_model.specs.Serving.{head_telling}
 use Rattle.collect_structure.specs.Names as collect
-use Rattle.collect_structure.proofs.checked.Stays.{IsFormMet}
 use Rattle.collect_structure.proofs.checked.Tasks.{added-declared}
 use Rattle.collect_model.specs.aborts.AbortTeller.{AbortTeller, names_told, told_in}
 use Rattle.collect_model.specs.aborts.Calling.{is_part}
@@ -51,6 +48,8 @@ use Rattle.normal_laws.proofs.structure.checked.Parts.{expr-stays, choices-stay,
 use Rattle.collect_structure.proofs.aborts.checked.Stays.{IsTextMet, uses-stay, callee-stays, head-stays, stay, stay-in}
 use Rattle.collect_structure.proofs.aborts.checked.Waits.{form-kept, places-kept, IsAgreed, accepts-kept}
 use Rattle.collect_structure.proofs.aborts.typed.Typed.{telling_by}
+use Rattle.replay_structure.proofs.checked.Stays.{IsFormMet}
+use Rattle.collect_structure.proofs.checked.Asked.{accept-under, caller-use}
 
 module _ (g : Setting) (task most : ℕ) where
   abbrev q : PProgram
@@ -238,17 +237,6 @@ module _ (g : Setting) (task most : ℕ) where
 
   -- ---- accepts
 
-  -- the names in an accept are inner ones
-  accept-under : (d : CheckScope) (h : PHead) → AreUnder d (check.in_accept d (head_telling x h))
-  accept-under d h id s e = uses-under (record d { accepting = h.entry.name ∷ d.accepting; loops = [] }) (check.formal_names (head_telling x h).formals) id s e
-
-  caller-use : (d : CheckScope) (h : PHead) (s : Span) → shared_variable (check.in_accept d (head_telling x h)) (uses (collect.added_id q caller_text) s) ≡ []
-  caller-use d h s =
-      inner-use (record d { accepting = h.entry.name ∷ d.accepting; loops = [] }) (check.formal_names (head_telling x h).formals)
-      (collect.added_id q caller_text) s
-      (ap (λ t. t || list_any (λ w. w.name.0 == (collect.added_id q caller_text).0) (check.formal_names h.formals))
-      (equal_self (collect.added_id q caller_text).0))
-
   -- an accept with the formal of the caller stands where it does without
   telling-accepted : (d : CheckScope) (h : PHead) → IsTextMet q (check.site d (accepts h)) → IsTextMet q (check.site d (accepts (head_telling x h)))
   telling-accepted d h m = record {
@@ -381,9 +369,9 @@ module _ (g : Setting) (task most : ℕ) where
         let rel' = accept-around q y most x refl c.1.0 d h rel in
         notes-met (check.in_accept c.1.0 h) d' rel'.0 n s 1 (EName (collect.added_id q caller_text) s) e (member_number g s e h.index) task
         (omega (arith, small))
-        (name-met d' n (collect.added_id q caller_text) s (omega (arith, small)) (caller-use d h s))
+        (name-met d' n (collect.added_id q caller_text) s (omega (arith, small)) (caller-use g task d h s))
         (member-met d' s e n h.index (omega (arith, small))
-        (λ p l. option-under d d' (accept-under d h) p h.index
+        (λ p l. option-under d d' (accept-under g task d h) p h.index
         (index-met c.1.0 d rel (k + 1) h.index i.0.1.1
         (all_front (IsFormMet q) (check.if_there (check.expr_sites c.1.0 (k + 1)) h.index)
         (check.names_sites c.1.0 (check.formal_names h.formals)) i.1.0.1.1) p (omega (arith, m, l, le)))));
@@ -397,7 +385,7 @@ module _ (g : Setting) (task most : ℕ) where
         let d' : CheckScope = check.in_accept d (head_telling x h) in
         let rel' = accept-around q y most x refl c.1.0 d h rel in (
           deep d' n s (omega (arith, small)),
-          (used d' (y.taken p) s (rel'.0.taken p j s), name-met d' (n + 1) (collect.added_id q caller_text) s (omega (arith, small)) (caller-use d h s)),
+          (used d' (y.taken p) s (rel'.0.taken p j s), name-met d' (n + 1) (collect.added_id q caller_text) s (omega (arith, small)) (caller-use g task d h s)),
         );
     keeps = λ c d k n s p rel h i le.
         let small : n ≤ 299 = omega (arith, h, le) in (

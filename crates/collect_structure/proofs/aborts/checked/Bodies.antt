@@ -22,17 +22,17 @@ use Rattle.syn_event.specs.RuleMainEntry.{main_entry}
 use Rattle.syn_event.specs.RuleSharedVariable.{shared_name, in_body_of, shared_variable}
 use Rattle.syn_event.specs.DeclaredTasks.{decl_list}
 use Rattle.task_model.specs.Setting.{Setting}
-use Rattle.normal_laws.proofs.structure.checked.MainScopes.{IsFrameOf, frame-refl, frame-trans}
+use Rattle.normal_laws.proofs.structure.checked.MainScopes.{IsFrameOf}
 use Rattle.normal_model.specs.Ranges.{word_at}
 use Rattle.replay_model.specs.ReplayTree.{is_added_object}
-use Rattle.replay_structure.proofs.checked.Scopes.{callees-under, inner-use}
+use Rattle.replay_structure.proofs.checked.Scopes.{inner-use}
 use Rattle.replay_structure.proofs.checked.Units.{entries_named}
 use Rattle.collect_model.specs.Names.{answer_text, part_text, recorder_text, collect_names, added_in}
 use Rattle.collect_model.specs.CollectTree.{unit_declared, behind_own}
 use Rattle.collect_structure.specs.Names as collect
 use Rattle.collect_structure.specs.checked.Checkable.{is_truth}
 use Rattle.collect_structure.proofs.checked.Names.{added-other}
-use Rattle.collect_structure.proofs.checked.Bodies.{after_objects, objects-listed, objects-of, frame-object, use-objects}
+use Rattle.collect_structure.proofs.checked.Bodies.{use-objects, frame-objects, callee-objects}
 use Rattle.collect_model.specs.aborts.Names.{taken_text, refused_text}
 use Rattle.collect_model.specs.aborts.Places.{most_places}
 use Rattle.collect_model.specs.aborts.AbortTeller.{AbortTeller}
@@ -41,39 +41,18 @@ use Rattle.collect_structure.specs.aborts.asked.Pieces.{IsPlace}
 use Rattle.collect_structure.specs.aborts.Names.{kept_name}
 use Rattle.collect_structure.specs.aborts.scopes.Text.{main_told}
 use Rattle.collect_structure.specs.aborts.checked.Around.{kept_names, IsTelling, IsStaying}
-use Rattle.collect_structure.proofs.aborts.checked.Alike.{AreAlike, IsNewWord, meant-alike, new-alike}
+use Rattle.collect_structure.proofs.checked.Alike.{AreAlike, IsNewWord, meant-alike, new-alike}
 use Rattle.collect_structure.proofs.aborts.checked.Asked.{y}
 use Rattle.collect_structure.proofs.aborts.checked.Names.{further-other, still-kept}
 use Rattle.collect_structure.proofs.aborts.texts.Listed.{all-places}
 use Rattle.collect_structure.proofs.aborts.texts.Named.{abort-has-places}
+use Rattle.replay_structure.proofs.checked.Bodies.{after_objects, objects-listed, objects-of}
 
 -- ---- the objects of a body
 
 pub after-both : (xs ys : List PDecl) (c : CheckScope) → after_objects c (xs ++ ys) ≡ after_objects (after_objects c xs) ys
 after-both [] ys c = refl
 after-both (x ∷ xs) ys c = after-both xs ys (after_own_object c x)
-
-frame-objects : (xs : List PDecl) (c : CheckScope) → IsFrameOf c (after_objects c xs)
-frame-objects [] c = frame-refl c
-frame-objects (x ∷ xs) c =
-    frame-trans c (after_own_object c x) (after_objects (after_own_object c x) xs) (frame-object x c) (frame-objects xs (after_own_object c x))
-
--- what may be called may be called behind objects
-callee-object : (x : PDecl) (c : CheckScope) (w : Word) → main_entry c (addresses w) ≡ [] → main_entry (after_own_object c x) (addresses w) ≡ []
-callee-object (DObject ws constant shape init s) c w h = callees-under c ws w h
-callee-object (DTask t s) c w h = h
-callee-object (DTaskBody v objects its s) c w h = h
-callee-object (DNumber v e s) c w h = h
-callee-object (DEnumeration v ws s) c w h = h
-callee-object (DArray v r x s) c w h = h
-callee-object (DSubtype v x s) c w h = h
-callee-object (DException ws s) c w h = h
-callee-object (DIntIo v s) c w h = h
-callee-object (DPragma e s) c w h = h
-
-callee-objects : (xs : List PDecl) (c : CheckScope) (w : Word) → main_entry c (addresses w) ≡ [] → main_entry (after_objects c xs) (addresses w) ≡ []
-callee-objects [] c w h = h
-callee-objects (x ∷ xs) c w h = callee-objects xs (after_own_object c x) w (callee-object x c w h)
 
 -- ---- objects that are declared there
 
@@ -145,8 +124,8 @@ module _ (x : AbortTeller) (s : Span) where
 -- ---- kept names
 
 module _ (q : PProgram) where
-  pub object-alike : (x : PDecl) (c d : CheckScope) → AreAlike q c d → AreAlike q (after_own_object c x) (after_own_object d x)
-  object-alike (DObject ws constant shape init s) c d h = meant-alike q Inner c d ws h
+  pub object-alike : (x : PDecl) (c d : CheckScope) → AreAlike (kept_name q) c d → AreAlike (kept_name q) (after_own_object c x) (after_own_object d x)
+  object-alike (DObject ws constant shape init s) c d h = meant-alike (kept_name q) Inner c d ws h
   object-alike (DTask t s) c d h = h
   object-alike (DTaskBody w objects its s) c d h = h
   object-alike (DNumber w e s) c d h = h
@@ -157,17 +136,17 @@ module _ (q : PProgram) where
   object-alike (DIntIo w s) c d h = h
   object-alike (DPragma e s) c d h = h
 
-  pub objects-alike : (xs : List PDecl) (c d : CheckScope) → AreAlike q c d → AreAlike q (after_objects c xs) (after_objects d xs)
+  pub objects-alike : (xs : List PDecl) (c d : CheckScope) → AreAlike (kept_name q) c d → AreAlike (kept_name q) (after_objects c xs) (after_objects d xs)
   objects-alike [] c d h = h
   objects-alike (x ∷ xs) c d h = objects-alike xs (after_own_object c x) (after_own_object d x) (object-alike x c d h)
 
   -- an object that stands in the text alone: its names are no kept ones
   abbrev pub IsNewObject : PDecl → Type 0
-  IsNewObject (DObject ws constant shape init s) = AllByRecursion (IsNewWord q) ws
+  IsNewObject (DObject ws constant shape init s) = AllByRecursion (IsNewWord (kept_name q)) ws
   IsNewObject _ = ⊥
 
-  pub new-object-alike : (x : PDecl) (c d : CheckScope) → IsNewObject x → AreAlike q c d → AreAlike q c (after_own_object d x)
-  new-object-alike (DObject ws constant shape init s) c d n h = new-alike q Inner c d ws n h
+  pub new-object-alike : (x : PDecl) (c d : CheckScope) → IsNewObject x → AreAlike (kept_name q) c d → AreAlike (kept_name q) c (after_own_object d x)
+  new-object-alike (DObject ws constant shape init s) c d n h = new-alike (kept_name q) Inner c d ws n h
   new-object-alike (DTask t s) c d n h = h
   new-object-alike (DTaskBody w objects its s) c d n h = h
   new-object-alike (DNumber w e s) c d n h = h
@@ -178,20 +157,20 @@ module _ (q : PProgram) where
   new-object-alike (DIntIo w s) c d n h = h
   new-object-alike (DPragma e s) c d n h = h
 
-  new-objects-alike : (xs : List PDecl) (c d : CheckScope) → AllByRecursion IsNewObject xs → AreAlike q c d → AreAlike q c (after_objects d xs)
+  new-objects-alike : (xs : List PDecl) (c d : CheckScope) → AllByRecursion IsNewObject xs → AreAlike (kept_name q) c d → AreAlike (kept_name q) c (after_objects d xs)
   new-objects-alike [] c d n h = h
   new-objects-alike (x ∷ xs) c d n h = new-objects-alike xs c (after_own_object d x) n.1 (new-object-alike x c d n.0 h)
 
   -- some objects that the text adds, in front of the variables of the normal form
   module _ (mine : List PDecl) (new : AllByRecursion IsNewObject mine) where
-    behind-alike : (xs : List PDecl) (c d : CheckScope) → AreAlike q c d → AreAlike q (after_objects c xs) (after_objects d (behind_own q.names mine xs))
+    behind-alike : (xs : List PDecl) (c d : CheckScope) → AreAlike (kept_name q) c d → AreAlike (kept_name q) (after_objects c xs) (after_objects d (behind_own q.names mine xs))
     behind-alike [] c d h = new-objects-alike mine c d new h
     behind-alike (x ∷ xs) c d h = go (is_added_object q.names x) (behind-alike xs (after_own_object c x) (after_own_object d x) (object-alike x c d h))
       where
-        go : (b : Bool) → AreAlike q (after_objects (after_own_object c x) xs) (after_objects (after_own_object d x) (behind_own q.names mine xs)) →
-            AreAlike q (after_objects c (x ∷ xs)) (after_objects d (if b then mine ++ x ∷ xs else x ∷ behind_own q.names mine xs))
+        go : (b : Bool) → AreAlike (kept_name q) (after_objects (after_own_object c x) xs) (after_objects (after_own_object d x) (behind_own q.names mine xs)) →
+            AreAlike (kept_name q) (after_objects c (x ∷ xs)) (after_objects d (if b then mine ++ x ∷ xs else x ∷ behind_own q.names mine xs))
         go true later =
-            subst (AreAlike q (after_objects c (x ∷ xs))) (sym (after-both mine (x ∷ xs) d))
+            subst (AreAlike (kept_name q) (after_objects c (x ∷ xs))) (sym (after-both mine (x ∷ xs) d))
             (objects-alike (x ∷ xs) c (after_objects d mine) (new-objects-alike mine c d new h))
         go false later = later
 
@@ -213,7 +192,7 @@ module _ (q : PProgram) where
 module _ (q : PProgram) where
   -- What is known of the scopes behind the tasks, in the normal form and in the text.
   pub record AreBehindTasks (c d : CheckScope) : Type 0 where
-    pub alike : AreAlike q c d
+    pub alike : AreAlike (kept_name q) c d
     pub truth : (n : ℕ) → is_truth n ≡ true → (own : Option EnclosingUnit) (s : Span) →
         shared_variable (record d { own = own }) (uses (record { 0 = n }) s) ≡ []
     pub values : (k : ℕ) (e : PExpr) → EveryExpr (kept_names q) k e → fixed d.types e ≡ fixed c.types e

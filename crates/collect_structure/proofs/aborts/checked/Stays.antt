@@ -12,11 +12,11 @@ use Rattle.normal_laws.proofs.structure.checked.Parts.{NamesStay, Stay, StayOut,
 use Rattle.normal_laws.proofs.structure.checked.Parts as parts
 use Rattle.normal_laws.proofs.structure.checked.Kept.{Deeper, Beside}
 use Rattle.normal_laws.proofs.structure.checked.Kept as kept
-use Rattle.collect_structure.proofs.checked.Stays.{IsFormMet}
 use Rattle.collect_model.specs.aborts.AbortTeller.{AbortTeller, names_told}
 use Rattle.collect_structure.specs.aborts.Names.{kept_name}
 use Rattle.collect_structure.specs.aborts.checked.Around.{kept_names, IsTelling}
 use Rattle.collect_structure.proofs.aborts.checked.Names.{kept-text}
+use Rattle.replay_structure.proofs.checked.Stays.{IsFormMet}
 
 -- At a place of the text none of the rules refuses anything.
 abbrev pub IsTextMet : PProgram → CheckSite → Type 0

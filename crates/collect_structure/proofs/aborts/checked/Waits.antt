@@ -1,13 +1,12 @@
 -- The selective waits of a collecting text of a program with abort statements: their alternatives are of the same kinds, and no two accepts are for one caller where none are in the normal form.
-use Rattle.std.proofs.Common.{◌≡◌, ℕ, ℤ, ◌+◌, ◌==◌, Bool, not, ◌&&◌, ◌||◌, nat_lt, cond, if◌then◌else◌, List, [], ◌∷◌, ◌++◌, map, count_by, Option, Some, None, IfSome, refl, sym, ap, ap₂, ◌∙◌}
+use Rattle.std.proofs.Common.{◌≡◌, ℕ, ℤ, ◌+◌, ◌==◌, Bool, not, ◌&&◌, ◌||◌, if◌then◌else◌, List, [], ◌∷◌, ◌++◌, map, Option, Some, None, IfSome, refl, ap, ap₂, ◌∙◌}
 use Rattle.std.specs.List.{AllByRecursion, list_any}
-use Rattle.std.proofs.lemmas.List.Sums.{sum_by-cons}
 use Rattle.ada_tree.specs.declared.naming.Span.{Span}
 use Rattle.ada_tree.specs.TypeTable.{TypeTable}
 use Rattle.ada_tree.specs.PlainExpr.{PExpr}
-use Rattle.ada_tree.specs.PlainStmt.{PHead, accepting, alternative, PAltKind, AAccept, ADelay, ATerminate, PAlts, no_alt, alt_then}
+use Rattle.ada_tree.specs.PlainStmt.{PHead, accepting, alternative, AAccept, ADelay, ATerminate, PAlts, no_alt, alt_then}
 use Rattle.syn_event.specs.Extents.{fixed}
-use Rattle.syn_event.specs.RuleSelectForm.{alt_kinds, is_accept, is_delay, is_terminate, some, one_if, is_malformed}
+use Rattle.syn_event.specs.RuleSelectForm.{alt_kinds, is_malformed}
 use Rattle.syn_event.specs.RuleSameEntryTwice.{accept_heads, are_other_values, differ, clash, clashing}
 use Rattle.syn_event.specs.CheckSites.{alt_places}
 use Rattle.normal_model.specs.Walk.{Rewriter, inside_alts}
@@ -15,36 +14,9 @@ use Rattle.collect_model.specs.Serving.{head_telling}
 use Rattle.collect_model.specs.aborts.AbortTeller.{AbortTeller}
 use Rattle.collect_model.specs.aborts.Waiting.{alternatives_told}
 use Rattle.collect_model.specs.aborts.AbortStmts.{abort_rewriter}
+use Rattle.collect_structure.proofs.checked.Waits.{SameKinds, same-step, malformed-same}
 
 -- ---- the kinds of alternatives
-
-count-step : (p : PAltKind → Bool) (x y : PAltKind) (xs ys : List PAltKind) → p x ≡ p y → count_by p xs ≡ count_by p ys →
-    count_by p (x ∷ xs) ≡ count_by p (y ∷ ys)
-count-step p x y xs ys e f =
-    sum_by-cons (λ z. cond (p z) 1 0) x xs ∙ ap (λ t. cond t 1 0 + count_by p xs) e ∙ ap (λ n. cond (p y) 1 0 + n) f ∙ sym
-    (sum_by-cons (λ z. cond (p z) 1 0) y ys)
-
--- the alternatives are of the same kinds
-record SameKinds (xs ys : List PAltKind) : Type 0 where
-  accepts : count_by is_accept xs ≡ count_by is_accept ys
-  delays : count_by is_delay xs ≡ count_by is_delay ys
-  terminates : count_by is_terminate xs ≡ count_by is_terminate ys
-
-same-step : (x y : PAltKind) (xs ys : List PAltKind) → is_accept x ≡ is_accept y → is_delay x ≡ is_delay y → is_terminate x ≡ is_terminate y →
-    SameKinds xs ys → SameKinds (x ∷ xs) (y ∷ ys)
-same-step x y xs ys e f g h = record {
-  accepts = count-step is_accept x y xs ys e h.accepts;
-  delays = count-step is_delay x y xs ys f h.delays;
-  terminates = count-step is_terminate x y xs ys g h.terminates;
-}
-
-malformed-same : (xs ys : List PAltKind) (others : Bool) → SameKinds xs ys → is_malformed xs others ≡ is_malformed ys others
-malformed-same xs ys others h =
-    ap (λ n. (n == 0) || nat_lt 1 (count_by is_terminate xs) || nat_lt 1
-    (some (count_by is_terminate xs) + some (count_by is_delay xs) + one_if others)) h.accepts
-    ∙ ap (λ n. (count_by is_accept ys == 0) || nat_lt 1 n || nat_lt 1 (some n + some (count_by is_delay xs) + one_if others)) h.terminates
-    ∙ ap (λ n. (count_by is_accept ys == 0) || nat_lt 1 (count_by is_terminate ys) || nat_lt 1
-    (some (count_by is_terminate ys) + some n + one_if others)) h.delays
 
 module _ (x : AbortTeller) (p : ℕ) where
   abbrev r : Rewriter ℕ

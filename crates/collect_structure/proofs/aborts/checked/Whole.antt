@@ -5,7 +5,7 @@ use Rattle.std.proofs.lemmas.List.{length-map}
 use Rattle.common_lemmas.proofs.Lists.{all_joined, all_kept, all_paired, all_three, all_first, all_second}
 use Rattle.common_lemmas.proofs.Numbers.{equal_self}
 use Rattle.ada_tree.specs.declared.naming.Span.{Span}
-use Rattle.ada_tree.specs.PlainDecl.{PTask, PDecl, DNumber, DObject, DEnumeration, DArray, DSubtype, DException, DIntIo, DPragma, DTask, DTaskBody}
+use Rattle.ada_tree.specs.PlainDecl.{PTask, PDecl}
 use Rattle.ada_tree.specs.PlainExpr.{PExpr}
 use Rattle.ada_tree.specs.PlainProgram.{PProgram}
 use Rattle.ada_tree.specs.Every.{EveryDecl, EveryExpr}
@@ -23,7 +23,6 @@ use Rattle.task_laws.proofs.legal.sites.Meeting.{all_check_met}
 use Rattle.task_model.specs.Setting.{Setting}
 use Rattle.normal_model.specs.NormalTree.{main_unit}
 use Rattle.normal_model.specs.Ranges.{word_at}
-use Rattle.normal_laws.proofs.structure.numbers.Listed.{IsOneTask, IsOneBody}
 use Rattle.normal_laws.proofs.structure.checked.Joined.{meets-checks}
 use Rattle.normal_laws.proofs.structure.checked.MainScopes.{frame-refl}
 use Rattle.normal_laws.specs.structure.numbers.Single.{IsSingle}
@@ -35,15 +34,13 @@ use Rattle.replay_structure.proofs.checked.Lists.{after_all, after-listed, after
 use Rattle.replay_structure.proofs.checked.Counted.{counted-met, entries-joined}
 use Rattle.replay_structure.proofs.checked.Named.{ids-listed, ids-of, plain-ids, task-ids, any-front, any-back}
 use Rattle.replay_structure.proofs.checked.Along.{OnTask, on-tasks}
-use Rattle.collect_model.specs.declared.AddedNames.{AddedNames}
 use Rattle.collect_model.specs.Names.{recorder_text}
 use Rattle.collect_model.specs.Lines.{header_text}
-use Rattle.collect_model.specs.CollectTree.{is_int_io, main_declared, entry_telling, task_telling, recorder_told}
+use Rattle.collect_model.specs.CollectTree.{is_int_io, main_declared, task_telling, recorder_told}
 use Rattle.collect_structure.specs.Names as names
 use Rattle.collect_structure.specs.checked.Checkable.{IsOtherThanTruths, HasFewFormals}
-use Rattle.collect_structure.proofs.texts.Listed.{all-behind, all-main}
+use Rattle.collect_structure.proofs.texts.Listed.{all-behind, all-main, one-tasks, one-bodies}
 use Rattle.collect_structure.proofs.checked.Before.{behind_added}
-use Rattle.collect_structure.proofs.checked.Stays.{IsFormMet}
 use Rattle.collect_structure.proofs.checked.Tasks.{recorder-met}
 use Rattle.collect_model.specs.aborts.AbortTeller.{AbortTeller, names_told, told_in}
 use Rattle.collect_model.specs.aborts.AbortTree.{abort_decl, abort_decls, abort_of, objects_told, places_declared, recorder_body_told}
@@ -57,97 +54,12 @@ use Rattle.collect_structure.proofs.aborts.checked.Bodies.{AreBehindTasks, main-
 use Rattle.collect_structure.proofs.aborts.checked.Names.{longer}
 use Rattle.collect_structure.proofs.aborts.checked.Recorded.{recorder-body-met}
 use Rattle.collect_structure.proofs.aborts.checked.Stays.{IsTextMet, name-stays}
-use Rattle.collect_structure.proofs.aborts.texts.Listed.{all-places, recorder_tasks, abort-tasks}
+use Rattle.collect_structure.proofs.aborts.texts.Listed.{all-places, abort-tells, abort-tasks}
+use Rattle.collect_structure.proofs.texts.Telling.{recorder_tasks, all-told-tasks, all-told-bodies, told-bodies, told-ids}
 use Rattle.collect_structure.proofs.aborts.texts.Named.{main-few, bodies-few}
 use Rattle.collect_structure.proofs.aborts.scopes.Inner.{main-told-is}
-
--- ---- lists
-
-one-tasks : (xs : List PDecl) → AllByRecursion IsSingle xs → AllByRecursion IsOneTask (filter is_task xs)
-one-tasks [] h = tt
-one-tasks (DTask t s ∷ xs) h = (h.0, one-tasks xs h.1)
-one-tasks (DTaskBody w objects its s ∷ xs) h = one-tasks xs h.1
-one-tasks (DNumber w e s ∷ xs) h = one-tasks xs h.1
-one-tasks (DObject ws c x i s ∷ xs) h = one-tasks xs h.1
-one-tasks (DEnumeration w ws s ∷ xs) h = one-tasks xs h.1
-one-tasks (DArray w r x s ∷ xs) h = one-tasks xs h.1
-one-tasks (DSubtype w x s ∷ xs) h = one-tasks xs h.1
-one-tasks (DException ws s ∷ xs) h = one-tasks xs h.1
-one-tasks (DIntIo w s ∷ xs) h = one-tasks xs h.1
-one-tasks (DPragma e s ∷ xs) h = one-tasks xs h.1
-
-one-bodies : (xs : List PDecl) → AllByRecursion IsOneBody (filter is_body xs)
-one-bodies [] = tt
-one-bodies (DTaskBody w objects its s ∷ xs) = (tt, one-bodies xs)
-one-bodies (DTask t s ∷ xs) = one-bodies xs
-one-bodies (DNumber w e s ∷ xs) = one-bodies xs
-one-bodies (DObject ws c x i s ∷ xs) = one-bodies xs
-one-bodies (DEnumeration w ws s ∷ xs) = one-bodies xs
-one-bodies (DArray w r x s ∷ xs) = one-bodies xs
-one-bodies (DSubtype w x s ∷ xs) = one-bodies xs
-one-bodies (DException ws s ∷ xs) = one-bodies xs
-one-bodies (DIntIo w s ∷ xs) = one-bodies xs
-one-bodies (DPragma e s ∷ xs) = one-bodies xs
-
--- bodies leave what stands around as it is
-bodies-same : (c : CheckScope) (xs : List PDecl) → AllByRecursion IsOneBody xs → after_all c xs ≡ c
-bodies-same c [] h = refl
-bodies-same c (DTaskBody w objects its s ∷ xs) h = bodies-same c xs h.1
-bodies-same c (DTask t s ∷ xs) h = absurd h.0
-bodies-same c (DNumber w e s ∷ xs) h = absurd h.0
-bodies-same c (DObject ws k x i s ∷ xs) h = absurd h.0
-bodies-same c (DEnumeration w ws s ∷ xs) h = absurd h.0
-bodies-same c (DArray w r x s ∷ xs) h = absurd h.0
-bodies-same c (DSubtype w x s ∷ xs) h = absurd h.0
-bodies-same c (DException ws s ∷ xs) h = absurd h.0
-bodies-same c (DIntIo w s ∷ xs) h = absurd h.0
-bodies-same c (DPragma e s ∷ xs) h = absurd h.0
-
--- a rewritten task is a single one, and a rewritten body a body
-singles-mapped : (x : AbortTeller) (names : List (List ℕ)) (xs : List PDecl) → AllByRecursion IsSingle xs →
-    AllByRecursion IsSingle (map (abort_decl x names) xs)
-singles-mapped x names [] h = tt
-singles-mapped x names (DTask t s ∷ xs) h = (h.0, singles-mapped x names xs h.1)
-singles-mapped x names (DTaskBody w objects its s ∷ xs) h = (tt, singles-mapped x names xs h.1)
-singles-mapped x names (DNumber w e s ∷ xs) h = (tt, singles-mapped x names xs h.1)
-singles-mapped x names (DObject ws c y i s ∷ xs) h = (tt, singles-mapped x names xs h.1)
-singles-mapped x names (DEnumeration w ws s ∷ xs) h = (tt, singles-mapped x names xs h.1)
-singles-mapped x names (DArray w r y s ∷ xs) h = (tt, singles-mapped x names xs h.1)
-singles-mapped x names (DSubtype w y s ∷ xs) h = (tt, singles-mapped x names xs h.1)
-singles-mapped x names (DException ws s ∷ xs) h = (tt, singles-mapped x names xs h.1)
-singles-mapped x names (DIntIo w s ∷ xs) h = (tt, singles-mapped x names xs h.1)
-singles-mapped x names (DPragma e s ∷ xs) h = (tt, singles-mapped x names xs h.1)
-
-bodies-mapped : (x : AbortTeller) (names : List (List ℕ)) (xs : List PDecl) → AllByRecursion IsOneBody xs →
-    AllByRecursion IsOneBody (map (abort_decl x names) xs)
-bodies-mapped x names [] h = tt
-bodies-mapped x names (DTaskBody w objects its s ∷ xs) h = (tt, bodies-mapped x names xs h.1)
-bodies-mapped x names (DTask t s ∷ xs) h = absurd h.0
-bodies-mapped x names (DNumber w e s ∷ xs) h = absurd h.0
-bodies-mapped x names (DObject ws c y i s ∷ xs) h = absurd h.0
-bodies-mapped x names (DEnumeration w ws s ∷ xs) h = absurd h.0
-bodies-mapped x names (DArray w r y s ∷ xs) h = absurd h.0
-bodies-mapped x names (DSubtype w y s ∷ xs) h = absurd h.0
-bodies-mapped x names (DException ws s ∷ xs) h = absurd h.0
-bodies-mapped x names (DIntIo w s ∷ xs) h = absurd h.0
-bodies-mapped x names (DPragma e s ∷ xs) h = absurd h.0
-
-body-ids-same : (x : AbortTeller) (names : List (List ℕ)) (xs : List PDecl) → AllByRecursion IsOneBody xs → body_ids (map (abort_decl x names) xs) ≡ body_ids xs
-body-ids-same x names [] h = refl
-body-ids-same x names (DTaskBody w objects its s ∷ xs) h = ap (λ l. w.name.0 ∷ l) (body-ids-same x names xs h.1)
-body-ids-same x names (DTask t s ∷ xs) h = absurd h.0
-body-ids-same x names (DNumber w e s ∷ xs) h = absurd h.0
-body-ids-same x names (DObject ws c y i s ∷ xs) h = absurd h.0
-body-ids-same x names (DEnumeration w ws s ∷ xs) h = absurd h.0
-body-ids-same x names (DArray w r y s ∷ xs) h = absurd h.0
-body-ids-same x names (DSubtype w y s ∷ xs) h = absurd h.0
-body-ids-same x names (DException ws s ∷ xs) h = absurd h.0
-body-ids-same x names (DIntIo w s ∷ xs) h = absurd h.0
-body-ids-same x names (DPragma e s ∷ xs) h = absurd h.0
-
-entries-kept : (n : AddedNames) (ts : List PTask) → entries_count (map (task_telling n) ts) ≡ entries_count ts
-entries-kept n [] = refl
-entries-kept n (t ∷ ts) = ap₂ (λ a b. a + b) (length-map t.entries (entry_telling n)) (entries-kept n ts)
+use Rattle.collect_structure.proofs.checked.Whole.{bodies-same, entries-kept}
+use Rattle.replay_structure.proofs.checked.Stays.{IsFormMet}
 
 -- ---- the text
 
@@ -258,7 +170,7 @@ module _ (g : Setting) (h : IsAbortCheckable g) where
       ∙ after-joined (front ++ tasks' ++ added ++ bodies') last d0
       ∙ after-joined (front ++ tasks' ++ added) bodies' d0
       ∙ ap (λ d. after_all d bodies') (after-joined (front ++ tasks') added d0 ∙ ap (λ d. after_all d added) (after-joined front tasks' d0))
-      ∙ bodies-same d3 bodies' (bodies-mapped x q.names bodies (one-bodies all))
+      ∙ bodies-same d3 bodies' (told-bodies x.teller.added (abort_decl x q.names) (abort-tells x q.names) bodies (one-bodies all))
 
   -- ---- the names of bodies
 
@@ -273,7 +185,7 @@ module _ (g : Setting) (h : IsAbortCheckable g) where
       ap (list_any (λ j. j == k)) (ids-of text)
       ∙ any-front k (front ++ tasks' ++ added ++ bodies') last
       (any-back k (front ++ tasks' ++ added) bodies'
-      (ap (list_any (λ j. j == k)) (body-ids-same x q.names bodies (one-bodies all)) ∙ sym (ap (list_any (λ j. j == k)) form-ids) ∙ i))
+      (ap (list_any (λ j. j == k)) (told-ids x.teller.added (abort_decl x q.names) (abort-tells x q.names) bodies) ∙ sym (ap (list_any (λ j. j == k)) form-ids) ∙ i))
 
   recorder-there : list_any (λ i. i == (names.added_id q recorder_text).0) (check.body_names p.decls) ≡ true
   recorder-there =
@@ -283,13 +195,13 @@ module _ (g : Setting) (h : IsAbortCheckable g) where
 
   -- ---- counts
 
-  text-tasks : tasks_in text ≡ map (task_telling x.teller.added) (tasks_of q) ++ recorder_tasks x q
+  text-tasks : tasks_in text ≡ map (task_telling x.teller.added) (tasks_of q) ++ recorder_tasks x.teller.added q
   text-tasks = abort-tasks x q
 
   few-tasks : length (tasks_in text) ≤ 202
   few-tasks =
       let e : length (tasks_in text) ≡ length (map (task_telling x.teller.added) (tasks_of q)) + 1 = ap (λ (l : List PTask). length l) text-tasks
-      ∙ length-append (map (task_telling x.teller.added) (tasks_of q)) (recorder_tasks x q) in
+      ∙ length-append (map (task_telling x.teller.added) (tasks_of q)) (recorder_tasks x.teller.added q) in
       let f : length (map (task_telling x.teller.added) (tasks_of q)) ≡ length (tasks_of q) = length-map (tasks_of q) (task_telling x.teller.added) in
       let few : length (tasks_of q) ≤ 200 = h.told.few_tasks in
       omega (arith, e, f, few)
@@ -297,7 +209,7 @@ module _ (g : Setting) (h : IsAbortCheckable g) where
   few-entries : entries_count (tasks_in text) ≤ 2600
   few-entries =
       let e : entries_count (tasks_in text) ≡ entries_count (map (task_telling x.teller.added) (tasks_of q)) + 1 = ap entries_count text-tasks
-      ∙ entries-joined (map (task_telling x.teller.added) (tasks_of q)) (recorder_tasks x q) in
+      ∙ entries-joined (map (task_telling x.teller.added) (tasks_of q)) (recorder_tasks x.teller.added q) in
       let f : entries_count (map (task_telling x.teller.added) (tasks_of q)) ≡ entries_count (tasks_of q) = entries-kept x.teller.added (tasks_of q) in
       let less : entries_count (tasks_of q) ≤ 1000 = h.told.few_entries in
       omega (arith, e, f, less)
@@ -313,9 +225,9 @@ module _ (g : Setting) (h : IsAbortCheckable g) where
       (all-main IsSingle x.teller.added s _ _ (tt, (tt, (tt, (tt, tt)))))
       (all-places IsSingle x s (places_in q.body) (places_in q.body) (omega arith) (λ n low high. (tt, tt))))
       (all_kept IsSingle is_plain all h.told.single))
-      (singles-mapped x q.names tasks (all_kept IsSingle is_task all h.told.single)))
+      (all-told-tasks x.teller.added (abort_decl x q.names) (abort-tells x q.names) IsSingle (λ t k one. one) tasks (one-tasks all h.told.single)))
       (refl, tt))
-      (singles-mapped x q.names bodies (all_kept IsSingle is_body all h.told.single)))
+      (all-told-bodies x.teller.added (abort_decl x q.names) (abort-tells x q.names) IsSingle (λ w objects its k. tt) bodies (one-bodies all)))
       (tt, tt)
 
   -- ---- places
@@ -394,7 +306,7 @@ module _ (g : Setting) (h : IsAbortCheckable g) where
         behind-bodies : after_all d0 (front ++ tasks' ++ added ++ bodies') ≡ d3
         behind-bodies =
             after-joined (front ++ tasks' ++ added) bodies' d0 ∙ ap (λ d. after_all d bodies') behind-added ∙ bodies-same d3 bodies'
-            (bodies-mapped x q.names bodies (one-bodies all))
+            (told-bodies x.teller.added (abort_decl x q.names) (abort-tells x q.names) bodies (one-bodies all))
 
     its-main-met : AllByRecursion M' (check.body_sites (check.after_decls d0 p.decls) 1 p.body)
     its-main-met =

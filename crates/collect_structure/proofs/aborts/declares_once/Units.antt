@@ -10,7 +10,7 @@ use Rattle.ada_tree.specs.NameList.{predefined}
 use Rattle.ada_tree.specs.declared.naming.Span.{Span}
 use Rattle.ada_tree.specs.declared.naming.Word.{Word}
 use Rattle.ada_tree.specs.PlainStmt.{PBody, body, no_handler, stmt_then}
-use Rattle.ada_tree.specs.PlainDecl.{DTask, DTaskBody, PDecl, PDecls, decls_of}
+use Rattle.ada_tree.specs.PlainDecl.{DTaskBody, PDecl, PDecls, decls_of}
 use Rattle.ada_tree.specs.PlainProgram.{PProgram}
 use Rattle.ada_static_rules.specs.RuleDuplicate.{is_among, is_predefined}
 use Rattle.ada_static_rules.specs.Sites.{all_names}
@@ -28,13 +28,12 @@ use Rattle.normal_model.specs.NormalTree.{main_unit}
 use Rattle.normal_model.specs.Ranges.{word_at}
 use Rattle.normal_laws.specs.structure.once.Apart.{AreApart, AreDistinct, IsFitIn, IsFreeOf, fixed_names}
 use Rattle.normal_laws.specs.structure.once.Names.{bodies_names, body_names, case_arms_names, inner_names}
-use Rattle.normal_laws.proofs.structure.numbers.Listed.{IsOneBody, IsOneTask}
+use Rattle.normal_laws.proofs.structure.numbers.Listed.{IsOneBody}
 use Rattle.normal_laws.proofs.structure.numbers.Named.{Has}
 use Rattle.normal_laws.proofs.structure.once.Once.{distinct-both, free-back, free-both, free-front}
 use Rattle.normal_laws.proofs.legality.declares_once.DeclaredNames.{word_ids}
 use Rattle.replay_structure.proofs.declares_once.Grown.{IsGood, IsSame, alone-from, declared-new, same-joined, same-then}
 use Rattle.replay_structure.proofs.declares_once.Plain.{AreFresh, put-same}
-use Rattle.replay_structure.proofs.declares_once.Units.{body_words}
 use Rattle.collect_model.specs.declared.AddedNames.{AddedNames}
 use Rattle.collect_model.specs.Names.{added_in, answer_text, caller_text, collect_names, gone_text, met_text, part_text, recorder_text}
 use Rattle.collect_model.specs.Teller.{task_of, teller_in}
@@ -238,20 +237,3 @@ module _ (g : Setting) (begins : take (length predefined) g.program.names ≡ pr
 -- it fixes no name
 pub recorder-fixes : (x : AbortTeller) (s : Span) (header held : List ℕ) → fixed_names (bodies_names held (recorder_body x s header ∷ [])) ≡ []
 recorder-fixes x s header held = ap fixed_names (append-nil (body_names (its_body x s header))) ∙ body-loose (its_body x s header)
-
--- ---- lists one behind the other
-
-pub told-words : (x : AbortTeller) (names : List (List ℕ)) (ds : List PDecl) → body_words (map (abort_decl x names) ds) ≡ body_words ds
-told-words x names [] = refl
-told-words x names (DTaskBody w objects its s ∷ ds) = ap (λ (l : List Word). w ∷ l) (told-words x names ds)
-told-words x names (d ∷ ds) = told-words x names ds
-
-pub told-bodies : (x : AbortTeller) (names : List (List ℕ)) (bs : List PDecl) → AllByRecursion IsOneBody bs → AllByRecursion IsOneBody (map (abort_decl x names) bs)
-told-bodies x names [] h = tt
-told-bodies x names (DTaskBody w objects its s ∷ bs) h = (tt, told-bodies x names bs h.1)
-told-bodies x names (d ∷ bs) h = absurd h.0
-
-pub told-ones : (x : AbortTeller) (names : List (List ℕ)) (ts : List PDecl) → AllByRecursion IsOneTask ts → AllByRecursion IsOneTask (map (abort_decl x names) ts)
-told-ones x names [] h = tt
-told-ones x names (DTask t s ∷ ts) h = (h.0, told-ones x names ts h.1)
-told-ones x names (d ∷ ts) h = absurd h.0

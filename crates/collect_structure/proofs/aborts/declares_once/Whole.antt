@@ -34,9 +34,10 @@ use Rattle.collect_structure.specs.aborts.declares_once.Laws.{AbortDeclaresOnce}
 use Rattle.collect_structure.specs.aborts.declares_once.Names.{IsOwn, LeavesNames, is_left}
 use Rattle.collect_structure.proofs.aborts.declares_once.Ids.{further-new, further_ids, left-other, own-clear}
 use Rattle.collect_structure.proofs.aborts.declares_once.Statements.{main-same}
-use Rattle.collect_structure.proofs.aborts.declares_once.Units.{bodies-same, caller-loose, caller-new, places-apart, places-fresh, places-variables, recorder-body-fit, recorder-fixes, teller_for, told-bodies, told-is, told-ones, told-words}
-use Rattle.collect_structure.proofs.aborts.texts.Listed.{told-tasks}
+use Rattle.collect_structure.proofs.aborts.declares_once.Units.{bodies-same, caller-loose, caller-new, places-apart, places-fresh, places-variables, recorder-body-fit, recorder-fixes, teller_for, told-is}
+use Rattle.collect_structure.proofs.aborts.texts.Listed.{abort-tells}
 use Rattle.collect_structure.proofs.aborts.texts.Named.{bodies-few, main-few}
+use Rattle.collect_structure.proofs.texts.Telling.{IsTelling, told-ones, told-tasks, told-bodies, told-words}
 
 -- names that are left alone leave room for the text without aborts too
 pub leaves-told : (q : PProgram) → LeavesNames q → collect.LeavesNames q
@@ -63,6 +64,9 @@ module _ (p : PProgram) (types : TypeTable) (numbers : Numbering) (once : AllOnc
 
   abbrev x : AbortTeller
   x = teller_for setting
+
+  abbrev tells : IsTelling x.teller.added (abort_decl x form.names)
+  tells = abort-tells x form.names
 
   abbrev further : List ℕ
   further = further_ids form
@@ -101,10 +105,10 @@ module _ (p : PProgram) (types : TypeTable) (numbers : Numbering) (once : AllOnc
     variables = places-variables setting leaves.begins leaves.few form.name.span (places_in form.body);
     new = places-fresh setting leaves.begins leaves.few (F p types numbers) fine further-fine form.name.span (places_in form.body) (main-few form);
     apart = places-apart setting leaves.begins leaves.few form.name.span (places_in form.body) (main-few form);
-    tasks = told-ones x form.names (ts p types numbers) (all-tasks p types numbers);
-    telling = told-tasks x form.names (ts p types numbers);
-    bodies = told-bodies x form.names (bs p types numbers) (all-bodies p types numbers);
-    words = told-words x form.names (bs p types numbers);
+    tasks = told-ones x.teller.added (abort_decl x form.names) tells (ts p types numbers) (all-tasks p types numbers);
+    telling = told-tasks x.teller.added (abort_decl x form.names) tells (ts p types numbers);
+    bodies = told-bodies x.teller.added (abort_decl x form.names) tells (bs p types numbers) (all-bodies p types numbers);
+    words = told-words x.teller.added (abort_decl x form.names) tells (bs p types numbers);
     same =
         bodies-same setting leaves.begins leaves.few (F p types numbers) fine further-fine [] (bs p types numbers) (all-bodies p types numbers) few
         (B-good p types numbers once room further wide);

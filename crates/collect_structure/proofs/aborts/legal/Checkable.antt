@@ -1,5 +1,5 @@
 -- The normal form of a legal program is as the rules 13 to 23 ask of it, where expressions of kept names have the same static values in the collecting text, and abort statements can stand.
-use Rattle.std.proofs.Common.{Bool, [], ap, eqb-true, false, lit<, refl, subst, sym, true, true≢false, ℕ, ◌==◌, ◌||◌, ◌∙◌, ◌≡◌}
+use Rattle.std.proofs.Common.{Bool, ap, eqb-true, false, lit<, refl, subst, sym, true, true≢false, ℕ, ◌==◌, ◌||◌, ◌∙◌, ◌≡◌}
 use Rattle.ada_tree.specs.Attributes.{false_name, true_name}
 use Rattle.ada_tree.specs.Every.{EveryExpr}
 use Rattle.ada_tree.specs.PlainExpr.{PExpr}
@@ -13,7 +13,7 @@ use Rattle.normal_laws.proofs.structure.types.Normal.{normal_agrees}
 use Rattle.normal_laws.specs.existence.Laws.{IsLegalOriginal}
 use Rattle.normal_laws.specs.runs.forms.Normalisable.{made_for, numbers_of}
 use Rattle.replay_structure.proofs.checkable.Ranges.{ranges-same}
-use Rattle.replay_structure.specs.checkable.Prepared.{IsPrepared, form_for}
+use Rattle.replay_structure.specs.checkable.Prepared.{form_for}
 use Rattle.collect_structure.proofs.kept.Declared.{declarations-kept}
 use Rattle.collect_structure.proofs.kept.Main.{main-kept}
 use Rattle.collect_structure.proofs.kept.Names.{IsKeeping}
@@ -37,9 +37,6 @@ module _ (p : PProgram) (h : IsLegalOriginal p) where
   abbrev N : Numbering
   N = numbers_of p
 
-  ready : IsPrepared p []
-  ready = prepared p h
-
   kept : IsKeeping p (kept_name n)
   kept = kept-keeping p
 
@@ -60,12 +57,12 @@ module _ (p : PProgram) (h : IsLegalOriginal p) where
   pub legal_is_abort_checkable : ((k : ℕ) (e : PExpr) → EveryExpr (kept_names n) k e → fixed (types_in (text_for p)) e ≡ fixed (types_in n) e) →
       IsAbortCheckable (form_for p)
   legal_is_abort_checkable values = record {
-    told = legal_is_checkable p h (same-values p T N ready.ordered ready.own);
-    main = kept.old p.name.name.0 ready.main;
+    told = legal_is_checkable p h (same-values p T N (prepared p h).ordered (prepared p h).own);
+    main = kept.old p.name.name.0 (prepared p h).main;
     declared = declarations-kept p h (kept_name n) kept;
     named = main-kept p h (kept_name n) kept;
     truths = truths;
-    ranges = ranges-same p T N _ _ (normal_agrees p T N ready.ordered) (abort_agrees p T N ready.ordered ready.own) ready.own;
+    ranges = ranges-same p T N _ _ (normal_agrees p T N (prepared p h).ordered) (abort_agrees p T N (prepared p h).ordered (prepared p h).own) (prepared p h).own;
     values = values;
-    beside = ready.apart;
+    beside = (prepared p h).apart;
   }

@@ -1,5 +1,5 @@
 -- The declarations of a collecting text of a program with abort statements, one list behind the other: the first declarations, what main declares more, the variables of the normal form, the tasks, the recorder, the bodies, and the recorder's body.
-use Rattle.std.proofs.Common.{List, [], ap, append-nil, append_assoc, false, if◌then◌else◌, sym, true, ℕ, ◌++◌, ◌∙◌, ◌∷◌, ◌≡◌}
+use Rattle.std.proofs.Common.{List, [], ap, append_assoc, false, sym, true, ◌++◌, ◌∙◌, ◌∷◌, ◌≡◌}
 use Rattle.std.specs.List.{AllByRecursion}
 use Rattle.ada_tree.specs.PlainDecl.{PDecl, decls_of}
 use Rattle.ada_tree.specs.PlainProgram.{PProgram}
@@ -9,16 +9,12 @@ use Rattle.syn_event.specs.DeclaredTasks.{decl_list}
 use Rattle.task_model.specs.Setting.{Setting}
 use Rattle.replay_model.specs.ReplayTree.{is_added_object}
 use Rattle.replay_structure.specs.scopes.Form.{plain_decls}
-use Rattle.collect_model.specs.CollectTree.{behind_own, recorder_told}
+use Rattle.collect_model.specs.CollectTree.{recorder_told}
 use Rattle.collect_structure.proofs.texts.Listed.{behind-front}
 use Rattle.collect_model.specs.aborts.AbortTeller.{AbortTeller}
 use Rattle.collect_model.specs.aborts.AbortTree.{abort_decls, objects_told, recorder_body_told}
 use Rattle.collect_structure.specs.aborts.scopes.Text.{at_bodies, at_last, at_more, at_recorder, at_tasks, at_vars, main_told, more, told_bodies, told_tasks}
-
--- in front of variables
-behind-added : (names : List (List ℕ)) (ds xs : List PDecl) → AllByRecursion (λ x. is_added_object names x ≡ true) xs → behind_own names ds xs ≡ ds ++ xs
-behind-added names ds [] h = sym (append-nil ds)
-behind-added names ds (x ∷ xs) h = ap (λ b. if b then ds ++ x ∷ xs else x ∷ behind_own names ds xs) h.0
+use Rattle.collect_structure.proofs.legal.Listed.{behind-added}
 
 module _ (g : Setting) (before vars : List PDecl) where
   abbrev q : PProgram

@@ -20,10 +20,10 @@ use Rattle.collect_structure.proofs.aborts.legal.Joined.{text-places-met}
 use Rattle.collect_structure.proofs.aborts.legal.Legal.{abort_has_numbers, abort_meets_checks}
 use Rattle.collect_structure.proofs.aborts.legal.Listed.{text-list}
 use Rattle.collect_structure.proofs.aborts.legal.Placed.{legal_abort_is_placed}
-use Rattle.collect_structure.proofs.aborts.scopes.Fewer.{formed}
 use Rattle.collect_structure.proofs.aborts.scopes.Inner.{main-told-is}
 use Rattle.collect_structure.proofs.aborts.scopes.Whole.{infos-free, legal_has_told_scopes}
 use Rattle.collect_structure.specs.aborts.Laws.{AbortIsAsPromised, AbortIsLegal, AbortMeetsTypes, text_for}
+use Rattle.collect_structure.proofs.legal.Bodies.{formed}
 
 -- Nothing is refused at the places of the text by the rules 1 and 3 to 12.
 pub legal_places_met : (p : PProgram) → IsLegalOriginal p → AllMetBut (sites (text_for p))

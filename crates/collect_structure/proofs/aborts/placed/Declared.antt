@@ -1,5 +1,5 @@
 -- The declarations of a collecting text of a program with abort statements are well placed.
-use Rattle.std.proofs.Common.{Bool, ◌≡◌, ℕ, zero, suc, pred, ◌==◌, ◌≤◌, ◌||◌, false, not, List, [], ◌∷◌, ◌++◌, drop, length, map, refl, sym, subst, arith, append_assoc}
+use Rattle.std.proofs.Common.{ℕ, ◌==◌, ◌≤◌, ◌||◌, not, List, [], ◌∷◌, ◌++◌, drop, length, map, refl, arith}
 use Rattle.std.proofs.lemmas.List.{length-map}
 use Rattle.std.specs.List.{AllByRecursion, filter, list_any}
 use Rattle.std.proofs.lemmas.List.Elements.{All-from_recursion, All-cons, recursion_from_All}
@@ -7,10 +7,10 @@ use Rattle.std.proofs.lemmas.List.Sums.{count_by-le-length}
 use Rattle.ada_tree.specs.declared.naming.NameId.{NameId}
 use Rattle.ada_tree.specs.declared.naming.Span.{Span}
 use Rattle.ada_tree.specs.PlainStmt.{PBody}
-use Rattle.ada_tree.specs.PlainDecl.{PEntry, PTask, PDecl, DNumber, DObject, DEnumeration, DArray, DSubtype, DException, DIntIo, DPragma, DTask, DTaskBody, PDecls, no_decl, decl_then, decls_of}
+use Rattle.ada_tree.specs.PlainDecl.{PEntry, PTask, PDecl, DNumber, DObject, DEnumeration, DArray, DSubtype, DException, DIntIo, DPragma, DTask, DTaskBody, PDecls, decls_of}
 use Rattle.ada_tree.specs.Every.{Rules, EveryFormal, EveryEntry, EveryTask, EveryDecl, EveryDecls, EveryBody, EveryProgram}
 use Rattle.ada_tree.specs.Lexical.{IsInteger, IsStringContent}
-use Rattle.ada_tree.specs.WellPlaced.{AreObjects, AreLater, BodiesLast, well_placed, IsWellPlaced}
+use Rattle.ada_tree.specs.WellPlaced.{AreObjects, BodiesLast, well_placed, IsWellPlaced}
 use Rattle.syn_event.specs.Numbering.{is_original_task, is_original_entry, original_tasks, original_entries}
 use Rattle.syn_event.specs.DeclaredTasks.{decl_list}
 use Rattle.common_lemmas.proofs.Lists.{all_joined, all_kept, all_weaker}
@@ -39,7 +39,7 @@ use Rattle.collect_model.specs.aborts.AbortStmts.{main_body, task_body}
 use Rattle.collect_model.specs.aborts.AbortTree.{places_declared, abort_decl, objects_told, recorder_body_told, abort_decls, abort_of}
 use Rattle.collect_structure.specs.aborts.placed.Placeable.{branch_asks, BranchesDecl, IsAbortPlaceable}
 use Rattle.collect_structure.proofs.aborts.asked.Walk.{main-keeps, task-keeps}
-use Rattle.collect_structure.proofs.aborts.texts.Listed.{all-places}
+use Rattle.collect_structure.proofs.aborts.texts.Listed.{all-places, abort-tells}
 use Rattle.collect_structure.proofs.aborts.placed.Named.{ArePlaces, names', old, are-added, are-places}
 use Rattle.collect_structure.proofs.aborts.placed.Made.{pieces}
 use Rattle.collect_structure.proofs.aborts.placed.Recorded.{taken-declared, refused-declared, recorder-placed}
@@ -48,170 +48,8 @@ use Rattle.collect_structure.proofs.placed.Named.{AreAdded}
 use Rattle.collect_structure.proofs.placed.Made.{formal-placed}
 use Rattle.collect_structure.proofs.placed.Header.{name-content, header-content}
 use Rattle.collect_structure.proofs.placed.Recorded.{recorder-declared, unit-placed, main-placed}
-use Rattle.collect_structure.proofs.texts.Listed.{all-behind, all-main}
-
--- ---- lists of declarations
-
-module _ (r : Rules) where
-  list-placed : (ds : List PDecl) → AllByRecursion (EveryDecl r) ds → EveryDecls r (decls_of ds)
-  list-placed [] h = tt
-  list-placed (d ∷ ds) h = (h.0, list-placed ds h.1)
-
-  placed-list : (ds : PDecls) → EveryDecls r ds → AllByRecursion (EveryDecl r) (decl_list ds)
-  placed-list no_decl h = tt
-  placed-list (decl_then d ds) h = (h.0, placed-list ds h.1)
-
--- ---- the order of declarations
-
--- it is no body
-abbrev IsNoBody : PDecl → Type 0
-IsNoBody d = is_body d ≡ false
-
-bodies-front : (xs ys : List PDecl) → AllByRecursion IsNoBody xs → BodiesLast (decls_of ys) → BodiesLast (decls_of (xs ++ ys))
-bodies-front [] ys h i = i
-bodies-front (DTaskBody w objects its s ∷ xs) ys h i = cc
-bodies-front (DTask t s ∷ xs) ys h i = bodies-front xs ys h.1 i
-bodies-front (DNumber w e s ∷ xs) ys h i = bodies-front xs ys h.1 i
-bodies-front (DObject ws c x o s ∷ xs) ys h i = bodies-front xs ys h.1 i
-bodies-front (DEnumeration w ws s ∷ xs) ys h i = bodies-front xs ys h.1 i
-bodies-front (DArray w q x s ∷ xs) ys h i = bodies-front xs ys h.1 i
-bodies-front (DSubtype w x s ∷ xs) ys h i = bodies-front xs ys h.1 i
-bodies-front (DException ws s ∷ xs) ys h i = bodies-front xs ys h.1 i
-bodies-front (DIntIo w s ∷ xs) ys h i = bodies-front xs ys h.1 i
-bodies-front (DPragma e s ∷ xs) ys h i = bodies-front xs ys h.1 i
-
--- it is a body
-abbrev IsBody : PDecl → Type 0
-IsBody (DTaskBody w objects its s) = Prim.Unit {0}
-IsBody _ = ⊥
-
-later : (ds : List PDecl) → AllByRecursion IsBody ds → AreLater (decls_of ds)
-later [] h = tt
-later (DTaskBody w objects its s ∷ ds) h = (tt, later ds h.1)
-later (DTask t s ∷ ds) h = absurd h.0
-later (DNumber w e s ∷ ds) h = absurd h.0
-later (DObject ws c x i s ∷ ds) h = absurd h.0
-later (DEnumeration w ws s ∷ ds) h = absurd h.0
-later (DArray w q x s ∷ ds) h = absurd h.0
-later (DSubtype w x s ∷ ds) h = absurd h.0
-later (DException ws s ∷ ds) h = absurd h.0
-later (DIntIo w s ∷ ds) h = absurd h.0
-later (DPragma e s ∷ ds) h = absurd h.0
-
-bodies-last : (ds : List PDecl) → AllByRecursion IsBody ds → BodiesLast (decls_of ds)
-bodies-last [] h = tt
-bodies-last (DTaskBody w objects its s ∷ ds) h = later ds h.1
-bodies-last (DTask t s ∷ ds) h = absurd h.0
-bodies-last (DNumber w e s ∷ ds) h = absurd h.0
-bodies-last (DObject ws c x i s ∷ ds) h = absurd h.0
-bodies-last (DEnumeration w ws s ∷ ds) h = absurd h.0
-bodies-last (DArray w q x s ∷ ds) h = absurd h.0
-bodies-last (DSubtype w x s ∷ ds) h = absurd h.0
-bodies-last (DException ws s ∷ ds) h = absurd h.0
-bodies-last (DIntIo w s ∷ ds) h = absurd h.0
-bodies-last (DPragma e s ∷ ds) h = absurd h.0
-
--- objects, in a list
-abbrev IsObject : PDecl → Type 0
-IsObject (DObject ws c x i s) = Prim.Unit {0}
-IsObject _ = ⊥
-
-objects-list : (ds : PDecls) → AreObjects ds → AllByRecursion IsObject (decl_list ds)
-objects-list no_decl h = tt
-objects-list (decl_then (DObject ws c x i s) l) h = (tt, objects-list l h)
-objects-list (decl_then (DNumber w e s) l) h = absurd h
-objects-list (decl_then (DEnumeration w ws s) l) h = absurd h
-objects-list (decl_then (DArray w q x s) l) h = absurd h
-objects-list (decl_then (DSubtype w x s) l) h = absurd h
-objects-list (decl_then (DException ws s) l) h = absurd h
-objects-list (decl_then (DIntIo w s) l) h = absurd h
-objects-list (decl_then (DPragma e s) l) h = absurd h
-objects-list (decl_then (DTask t s) l) h = absurd h
-objects-list (decl_then (DTaskBody w objects its s) l) h = absurd h
-
-list-objects : (ds : List PDecl) → AllByRecursion IsObject ds → AreObjects (decls_of ds)
-list-objects [] h = tt
-list-objects (DObject ws c x i s ∷ l) h = list-objects l h.1
-list-objects (DNumber w e s ∷ l) h = absurd h.0
-list-objects (DEnumeration w ws s ∷ l) h = absurd h.0
-list-objects (DArray w q x s ∷ l) h = absurd h.0
-list-objects (DSubtype w x s ∷ l) h = absurd h.0
-list-objects (DException ws s ∷ l) h = absurd h.0
-list-objects (DIntIo w s ∷ l) h = absurd h.0
-list-objects (DPragma e s ∷ l) h = absurd h.0
-list-objects (DTask t s ∷ l) h = absurd h.0
-list-objects (DTaskBody w objects its s ∷ l) h = absurd h.0
-
--- ---- the first declarations
-
-filtered-bodies : (ds : List PDecl) → AllByRecursion IsNoBody (filter (λ d. not (is_task d || is_body d)) ds)
-filtered-bodies [] = tt
-filtered-bodies (DTaskBody w objects its s ∷ ds) = filtered-bodies ds
-filtered-bodies (DTask t s ∷ ds) = filtered-bodies ds
-filtered-bodies (DNumber w e s ∷ ds) = (refl, filtered-bodies ds)
-filtered-bodies (DObject ws c x o s ∷ ds) = (refl, filtered-bodies ds)
-filtered-bodies (DEnumeration w ws s ∷ ds) = (refl, filtered-bodies ds)
-filtered-bodies (DArray w q x s ∷ ds) = (refl, filtered-bodies ds)
-filtered-bodies (DSubtype w x s ∷ ds) = (refl, filtered-bodies ds)
-filtered-bodies (DException ws s ∷ ds) = (refl, filtered-bodies ds)
-filtered-bodies (DIntIo w s ∷ ds) = (refl, filtered-bodies ds)
-filtered-bodies (DPragma e s ∷ ds) = (refl, filtered-bodies ds)
-
-module _ (x : AbortTeller) (names : List (List ℕ)) where
-  tasks-no-bodies : (ds : List PDecl) → AllByRecursion IsNoBody (map (abort_decl x names) (filter is_task ds))
-  tasks-no-bodies [] = tt
-  tasks-no-bodies (DTask t s ∷ ds) = (refl, tasks-no-bodies ds)
-  tasks-no-bodies (DTaskBody w objects its s ∷ ds) = tasks-no-bodies ds
-  tasks-no-bodies (DNumber w e s ∷ ds) = tasks-no-bodies ds
-  tasks-no-bodies (DObject ws c y o s ∷ ds) = tasks-no-bodies ds
-  tasks-no-bodies (DEnumeration w ws s ∷ ds) = tasks-no-bodies ds
-  tasks-no-bodies (DArray w q y s ∷ ds) = tasks-no-bodies ds
-  tasks-no-bodies (DSubtype w y s ∷ ds) = tasks-no-bodies ds
-  tasks-no-bodies (DException ws s ∷ ds) = tasks-no-bodies ds
-  tasks-no-bodies (DIntIo w s ∷ ds) = tasks-no-bodies ds
-  tasks-no-bodies (DPragma e s ∷ ds) = tasks-no-bodies ds
-
-  only-bodies : (ds : List PDecl) → AllByRecursion IsBody (map (abort_decl x names) (filter is_body ds))
-  only-bodies [] = tt
-  only-bodies (DTaskBody w objects its s ∷ ds) = (tt, only-bodies ds)
-  only-bodies (DTask t s ∷ ds) = only-bodies ds
-  only-bodies (DNumber w e s ∷ ds) = only-bodies ds
-  only-bodies (DObject ws c y o s ∷ ds) = only-bodies ds
-  only-bodies (DEnumeration w ws s ∷ ds) = only-bodies ds
-  only-bodies (DArray w q y s ∷ ds) = only-bodies ds
-  only-bodies (DSubtype w y s ∷ ds) = only-bodies ds
-  only-bodies (DException ws s ∷ ds) = only-bodies ds
-  only-bodies (DIntIo w s ∷ ds) = only-bodies ds
-  only-bodies (DPragma e s ∷ ds) = only-bodies ds
-
-main-no-bodies : (n : AddedNames) (s : Span) (instance : Bool) (last : ℕ) → AllByRecursion IsNoBody (main_declared n s instance last)
-main-no-bodies n s instance last = all-main IsNoBody n s instance last (refl, (refl, (refl, (refl, tt))))
-
--- bodies stand last
-pub order-kept : (x : AbortTeller) (g : Setting) → BodiesLast (decls_of (abort_decls x g.program (decl_list g.program.decls)))
-order-kept x g =
-    let ds : List PDecl = decl_list g.program.decls in
-    let names : List (List ℕ) = g.program.names in
-    let objects : List PDecl = filter (λ d. not (is_task d || is_body d)) ds in
-    let first : List PDecl = objects_told x g.program objects in
-    let tasks : List PDecl = map (abort_decl x names) (filter is_task ds) in
-    let added : List PDecl = recorder_told x.teller g.program ∷ [] in
-    let bodies : List PDecl = map (abort_decl x names) (filter is_body ds) in
-    let last : List PDecl = recorder_body_told x g.program ∷ [] in
-    let front : AllByRecursion IsNoBody (first ++ tasks ++ added) =
-    all_joined IsNoBody (first ++ tasks) added
-    (all_joined IsNoBody first tasks
-    (all-behind IsNoBody names _ objects
-    (all_joined IsNoBody (main_declared x.teller.added g.program.name.span _ _) (places_declared x g.program.name.span (places_in g.program.body))
-    (main-no-bodies x.teller.added g.program.name.span _ _)
-    (all-places IsNoBody x g.program.name.span (places_in g.program.body) (places_in g.program.body) (omega arith) (λ p low high. (refl, refl)))) (filtered-bodies ds))
-    (tasks-no-bodies x names ds)) (refl, tt) in
-    subst (λ ys. BodiesLast (decls_of ys)) (sym (append_assoc (first ++ tasks ++ added) bodies last))
-    (bodies-front (first ++ tasks ++ added) (bodies ++ last) front (bodies-last (bodies ++ last) (all_joined IsBody bodies last (only-bodies x names ds) (tt, tt))))
-
-pred-less : (n : ℕ) → pred n ≤ n
-pred-less zero = omega arith
-pred-less (suc n) = omega arith
+use Rattle.collect_structure.proofs.texts.Listed.{all-behind}
+use Rattle.collect_structure.proofs.placed.Declared.{list-placed, placed-list, IsNoBody, IsObject, objects-list, list-objects, main-no-bodies, pred-less, told-order}
 
 -- ---- each declaration
 
@@ -418,6 +256,13 @@ module _ (g : Setting) (w : IsAbortPlaceable g) where
       (bodies-placed ds plain all h.ready.decls h.decls w.decls))
       (recorder-placed g (names' g h.ready) x known places last-few s (header_text g.program.names g.numbers) header short named, tt))
 
+  its-order : BodiesLast (decls_of (abort_decls x g.program (decl_list g.program.decls)))
+  its-order =
+      told-order x.teller.added (abort_decl x g.program.names) (abort-tells x g.program.names) g.program _ (recorder_body_told x g.program)
+      (all_joined IsNoBody (main_declared x.teller.added g.program.name.span _ (last_task x.teller.numbers)) (places_declared x g.program.name.span (places_in g.program.body))
+      (main-no-bodies x.teller.added g.program.name.span _ (last_task x.teller.numbers))
+      (all-places IsNoBody x g.program.name.span (places_in g.program.body) (places_in g.program.body) (omega arith) (λ p low high. (refl, refl)))) tt
+
   -- The text is well placed.
   pub abort_is_placed : IsWellPlaced (abort_of x g.program)
-  abort_is_placed = (whole.0, order-kept x g, decls-placed, main-body-placed)
+  abort_is_placed = (whole.0, its-order, decls-placed, main-body-placed)

@@ -1,7 +1,7 @@
 -- The normal form of each legal program is as its collecting text asks, with the names that stay what they are in a text with abort statements.
 use Rattle.std.proofs.Common.{Bool, IfSome, List, None, Option, Some, [], ap, arith, false, filter, flat_map, not, subst, sym, true, ℕ, ◌&&◌, ◌∷◌, ◌≡◌}
 use Rattle.std.specs.List.{AllByRecursion}
-use Rattle.std.proofs.lemmas.List.Elements.{All-from_recursion, recursion_from_All}
+use Rattle.std.proofs.lemmas.List.Elements.{recursion_from_All}
 use Rattle.common_lemmas.proofs.Lists.{all_back, all_kept, all_paired, all_weaker}
 use Rattle.common_lemmas.proofs.Truth.{and_left}
 use Rattle.ada_tree.specs.Every.{EveryDecl, EveryDrange, EveryEntry, EveryFormal, EveryProgram}
@@ -27,17 +27,15 @@ use Rattle.normal_laws.proofs.structure.types.Variables.{unit-all}
 use Rattle.normal_laws.specs.existence.Laws.{IsLegalOriginal}
 use Rattle.normal_laws.specs.runs.forms.Normalisable.{made_for, numbers_of, setting_for}
 use Rattle.normal_laws.specs.structure.checked.Around.{own_rules}
-use Rattle.replay_model.specs.ReplayTree.{is_body, is_task, script_of}
+use Rattle.replay_model.specs.ReplayTree.{is_body, is_task}
 use Rattle.replay_structure.proofs.texts.Listed.{normal-bodies}
 use Rattle.replay_structure.specs.checkable.Prepared.{form_for}
-use Rattle.replay_structure.specs.scopes.Form.{BodyForms, IsForm, IsOldEntry, IsVariableOf, last, tasked}
+use Rattle.replay_structure.specs.scopes.Form.{BodyForms, IsOldEntry, IsVariableOf, last, tasked}
 use Rattle.replay_structure.specs.scopes.Names.{old_name}
-use Rattle.replay_structure.proofs.legal.names.Form.{legal_normal_is_form}
 use Rattle.replay_structure.proofs.legal.names.form_names.Decls.{body-of, variable-of}
 use Rattle.replay_structure.proofs.legal.names.form_names.TypeNames.{kinds-own}
 use Rattle.replay_structure.specs.legal.names.form_names.Laws.{IsNamedBody}
 use Rattle.replay_structure.specs.legal.names.form_units.Inner.{inner_name}
-use Rattle.seq_file.specs.Known.{is_known}
 use Rattle.collect_structure.proofs.kept.Main.{first-kept}
 use Rattle.collect_structure.proofs.kept.Names.{IsKeeping}
 use Rattle.collect_structure.proofs.legal.Asked.{told-asked}
@@ -51,6 +49,7 @@ use Rattle.collect_structure.specs.typed.Told.{told_asks}
 use Rattle.collect_structure.proofs.aborts.scopes.Names.{kept-keeping}
 use Rattle.collect_structure.proofs.aborts.scopes.Owned.{all-owned}
 use Rattle.collect_structure.specs.aborts.Names.{is_further, kept_name}
+use Rattle.collect_structure.proofs.legal.Bodies.{formed}
 
 -- ---- tasks
 
@@ -112,10 +111,6 @@ module _ (p : PProgram) (h : IsLegalOriginal p) where
   every : AllByRecursion R (decl_list q.decls)
   every = every_listed (own_rules kept) q.decls owned.2
 
-  -- what a replay text of no events asks
-  pub formed : IsForm F (old_name q) (inner_name p) (script_of (numbers_of p) []) before vars
-  formed = legal_normal_is_form p [] h (record { each = All-from_recursion (λ e. is_known (numbers_of p) e ≡ true) [] tt; few = omega arith })
-
   -- ---- names
 
   unkept : (n : ℕ) → collect.kept_name q n ≡ false → kept n ≡ false
@@ -149,7 +144,7 @@ module _ (p : PProgram) (h : IsLegalOriginal p) where
   -- ---- statements
 
   main-asked : AskedBody (told_asks kept (inner_told p)) (tt, inner_scope (last q before vars)) 1 q.body
-  main-asked = told-asked p kept (old_name q) (inner_scope (last q before vars)) q.body owned.3 formed.asked (main-free p h (inner_scope (last q before vars))) (main-indices p h)
+  main-asked = told-asked p kept (old_name q) (inner_scope (last q before vars)) q.body owned.3 (formed p h).asked (main-free p h (inner_scope (last q before vars))) (main-indices p h)
 
   abbrev Known : PDecl → Type 0
   Known d = IsNamedBody kept d × (HasFree T d × HasOuterIndices p d)
@@ -210,7 +205,7 @@ module _ (p : PProgram) (h : IsLegalOriginal p) where
     variables_met = plain.variables_met;
     tasks = tasks;
     tasks_met = plain.tasks_met;
-    bodies = bodies-told bodies (tasked q before vars) plain.bodies formed.bodies known;
+    bodies = bodies-told bodies (tasked q before vars) plain.bodies (formed p h).bodies known;
     has = plain.has;
     asked = main-asked;
   }

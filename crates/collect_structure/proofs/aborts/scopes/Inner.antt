@@ -1,37 +1,29 @@
 -- The objects of a body in a collecting text of a program with abort statements, with DED_G, DED_W and the variables of the places among them: the scopes behind them in both texts, and their places.
-use Rattle.std.proofs.Common.{Bool, List, [], ap, false, if◌then◌else◌, inl, length, refl, subst, sym, take, true, ℕ, ◌++◌, ◌∙◌, ◌∷◌, ◌≡◌, ◌≤◌}
+use Rattle.std.proofs.Common.{Bool, List, [], ap, false, if◌then◌else◌, length, refl, subst, sym, take, true, ℕ, ◌++◌, ◌∙◌, ◌∷◌, ◌≡◌, ◌≤◌}
 use Rattle.std.specs.List.{AllByRecursion}
-use Rattle.common_lemmas.proofs.Lists.{all_back, all_front, all_joined, all_weaker}
+use Rattle.common_lemmas.proofs.Lists.{all_back, all_front, all_joined}
 use Rattle.ada_tree.specs.NameList.{predefined}
-use Rattle.ada_tree.specs.PlainDecl.{DObject, PDecl, decl_then, decls_of, no_decl}
+use Rattle.ada_tree.specs.PlainDecl.{PDecl, decl_then, decls_of, no_decl}
 use Rattle.ada_tree.specs.PlainProgram.{PProgram}
 use Rattle.ada_tree.specs.TypeTable.{TypeTable}
-use Rattle.ada_tree.specs.declared.naming.NameId.{NameId}
 use Rattle.ada_tree.specs.declared.naming.Span.{Span}
-use Rattle.ada_tree.specs.declared.naming.Word.{Word}
-use Rattle.ada_static_rules.specs.Declaring.{Declared, after_decls, after_objects, after_own_object, declared_object}
+use Rattle.ada_static_rules.specs.Declaring.{after_decls, after_objects, after_own_object}
 use Rattle.ada_static_rules.specs.Scope.{Scope}
 use Rattle.ada_static_rules.specs.Sites.{own_object_sites, own_sites}
 use Rattle.task_model.specs.Setting.{Setting}
-use Rattle.task_laws.proofs.legal.alike_scopes.Naming.{tables-kept}
-use Rattle.task_laws.proofs.legal.alike_scopes.Objects.{declared-same}
-use Rattle.task_laws.proofs.legal.rewritten_types.Adding.{keeps-objects, keeps-shape}
-use Rattle.task_laws.specs.legal.alike_scopes.Alike.{SameTypes}
+use Rattle.task_laws.proofs.legal.rewritten_types.Adding.{keeps-objects}
 use Rattle.task_laws.specs.legal.alike_scopes.Laws.{IsMetBut}
 use Rattle.normal_model.specs.NormalTree.{main_unit}
-use Rattle.normal_laws.proofs.structure.typed.Declared.{thing-init}
 use Rattle.normal_laws.proofs.structure.typed.Variables.{AllMetBut}
 use Rattle.replay_model.specs.ReplayTree.{is_added_object}
 use Rattle.replay_structure.specs.scopes.Form.{HasOldInit, IsOwnObject}
 use Rattle.collect_model.specs.CollectTree.{behind_own, unit_declared}
 use Rattle.collect_model.specs.Names.{added_in, collect_names, recorder_text}
 use Rattle.collect_model.specs.declared.AddedNames.{AddedNames}
-use Rattle.collect_structure.proofs.scopes.Inner.{IsInner, IsUnit, inner-step, objects-told as plain-told, old-other, unit-kept}
-use Rattle.collect_structure.proofs.scopes.Language.{IsApart, IsOther, own-means}
-use Rattle.collect_structure.proofs.scopes.Objects.{object-stays}
+use Rattle.collect_structure.proofs.scopes.Inner.{IsInner, IsUnit, inner-step, objects-told as plain-told, unit-kept, own-apart, object-site}
+use Rattle.collect_structure.proofs.scopes.Language.{own-means}
 use Rattle.collect_structure.specs.Names as collect
 use Rattle.collect_structure.specs.scopes.Form.{AreNamesNew, DeclaresNew}
-use Rattle.collect_structure.specs.scopes.Grown.{IsGrown}
 use Rattle.collect_model.specs.aborts.AbortTeller.{AbortTeller, told_in}
 use Rattle.collect_model.specs.aborts.AbortTree.{places_declared}
 use Rattle.collect_model.specs.aborts.Places.{most_places}
@@ -91,13 +83,9 @@ module _ (g : Setting) (old : ℕ → Bool) (new : AreNamesNew g old) (fresh : E
     pub plain : IsUnit g old new c d
     pub places : HasPlaces g k d
 
-  own-apart : (id : NameId) → old id.0 ≡ false → (y : PDecl) → IsOwnObject old y → IsApart id y
-  own-apart id e (DObject ws constant shape init s) o = all_weaker (λ (w : Word). old w.name.0 ≡ true) (IsOther id) ws (old-other g old new id e) o.0
-  own-apart id e y o = absurd o
-
   own-stays : (y : PDecl) (d : Scope) → d.in_main ≡ false → IsOwnObject old y → EachPlace g (Stay g d (after_own_object d y))
   own-stays y d main o =
-      each-place g (λ id. old id.0 ≡ false) (Stay g d (after_own_object d y)) (λ id e. (own-means id y d (own-apart id e y o), keeps-objects (decl_then y no_decl) d main)) fresh
+      each-place g (λ id. old id.0 ≡ false) (Stay g d (after_own_object d y)) (λ id e. (own-means id y d (own-apart g old new id e y o), keeps-objects (decl_then y no_decl) d main)) fresh
 
   within-step : (y : PDecl) (c d : Scope) → IsOwnObject old y → DeclaresNew y → IsWithin c d → IsWithin (after_own_object c y) (after_own_object d y)
   within-step y c d o m i = record {
@@ -167,22 +155,12 @@ module _ (g : Setting) (old : ℕ → Bool) (new : AreNamesNew g old) (fresh : E
 
     -- ---- places
 
-    object-site : (y : PDecl) (c d : Scope) → c.in_main ≡ false → d.in_main ≡ false → IsGrown q old c d → IsOwnObject old y → HasOldInit old y →
-        AllMetBut (own_object_sites c y) → AllMetBut (own_object_sites d y)
-    object-site (DObject ws constant shape init at) c d left right r o i m =
-        let a : Declared = declared_object c constant shape in
-        let b : Declared = declared_object d constant shape in
-        let types : SameTypes old a.types b.types = (tables-kept old c d a.types b.types r.names (keeps-shape c constant shape) (keeps-shape d constant shape)).types in
-        object-stays old c d r.names r.main ws constant shape init a b
-        (thing-init a.types b.types (λ j h. (h.0, types.kinds j h.0 h.1)) a.thing b.thing (declared-same old c d r.names left right constant shape o.1)) o.1 i (inl left) m
-    object-site y c d left right r o i m = absurd o
-
     objects-stay : (xs : List PDecl) (c d : Scope) → AllByRecursion (IsOwnObject old) xs → AllByRecursion (HasOldInit old) xs → AllByRecursion DeclaresNew xs →
         IsPlaced k c d → AllMetBut (own_sites c (decls_of xs)) → AllMetBut (own_sites d (decls_of xs))
     objects-stay [] c d o i m u h = tt
     objects-stay (y ∷ xs) c d o i m u h =
         all_joined IsMetBut (own_object_sites d y) _
-        (object-site y c d u.plain.left u.plain.right u.plain.grown o.0 i.0 (all_front IsMetBut (own_object_sites c y) (own_sites (after_own_object c y) (decls_of xs)) h))
+        (object-site g old new y c d u.plain.left u.plain.right u.plain.grown o.0 i.0 (all_front IsMetBut (own_object_sites c y) (own_sites (after_own_object c y) (decls_of xs)) h))
         (objects-stay xs (after_own_object c y) (after_own_object d y) o.1 i.1 m.1 (placed-step k le y c d o.0 m.0 u)
         (all_back IsMetBut (own_object_sites c y) (own_sites (after_own_object c y) (decls_of xs)) h))
 
@@ -202,7 +180,7 @@ module _ (g : Setting) (old : ℕ → Bool) (new : AreNamesNew g old) (fresh : E
       objects-met (y ∷ xs) c d o i m u h =
           by_test (is_added_object q.names y)
           (all_joined IsMetBut (own_object_sites d y) _
-          (object-site y c d u.plain.left u.plain.right u.plain.grown o.0 i.0 (all_front IsMetBut (own_object_sites c y) (own_sites (after_own_object c y) (decls_of xs)) h))
+          (object-site g old new y c d u.plain.left u.plain.right u.plain.grown o.0 i.0 (all_front IsMetBut (own_object_sites c y) (own_sites (after_own_object c y) (decls_of xs)) h))
           (objects-met xs (after_own_object c y) (after_own_object d y) o.1 i.1 m.1 (within-step y c d o.0 m.0 u)
           (all_back IsMetBut (own_object_sites c y) (own_sites (after_own_object c y) (decls_of xs)) h)))
         where

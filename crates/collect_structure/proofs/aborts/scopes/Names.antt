@@ -17,6 +17,7 @@ use Rattle.collect_structure.proofs.kept.Names as plain
 use Rattle.collect_structure.proofs.kept.Names.{IsKeeping}
 use Rattle.collect_structure.specs.Names as collect
 use Rattle.collect_structure.specs.aborts.Names.{is_further, kept_name}
+use Rattle.common_lemmas.proofs.Truth.{and_false}
 
 -- ---- texts
 
@@ -38,16 +39,12 @@ original-text t h = not-begun t (original-begins t h)
 variable-further : (k : ℕ) → is_further (variable_text k) ≡ false
 variable-further k = refl
 
-no-letter : (b : Bool) → (b && false) ≡ false
-no-letter true = refl
-no-letter false = refl
-
 -- the text of a member of an array
 member-text : (t u : List ℕ) → is_reserved t ≡ false → is_further (t ++ (codes "_DED_" ++ u)) ≡ false
-member-text [] u h = no-letter (starts_with nat_eq (codes "_DED_" ++ u) (codes "DED_"))
-member-text (a ∷ []) u h = no-letter (starts_with nat_eq (a ∷ codes "_DED_" ++ u) (codes "DED_"))
-member-text (a ∷ b ∷ []) u h = no-letter (starts_with nat_eq (a ∷ b ∷ codes "_DED_" ++ u) (codes "DED_"))
-member-text (a ∷ b ∷ c ∷ []) u h = no-letter (starts_with nat_eq (a ∷ b ∷ c ∷ codes "_DED_" ++ u) (codes "DED_"))
+member-text [] u h = and_false (starts_with nat_eq (codes "_DED_" ++ u) (codes "DED_"))
+member-text (a ∷ []) u h = and_false (starts_with nat_eq (a ∷ codes "_DED_" ++ u) (codes "DED_"))
+member-text (a ∷ b ∷ []) u h = and_false (starts_with nat_eq (a ∷ b ∷ codes "_DED_" ++ u) (codes "DED_"))
+member-text (a ∷ b ∷ c ∷ []) u h = and_false (starts_with nat_eq (a ∷ b ∷ c ∷ codes "_DED_" ++ u) (codes "DED_"))
 member-text (a ∷ b ∷ c ∷ d ∷ t) u h = not-begun (a ∷ b ∷ c ∷ d ∷ t ++ (codes "_DED_" ++ u)) (original-begins (a ∷ b ∷ c ∷ d ∷ t) h)
 
 -- ---- ids in the normal form

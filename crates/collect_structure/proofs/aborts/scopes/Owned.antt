@@ -1,10 +1,7 @@
 -- All names in the normal form of a legal program are such as a test holds of, where it holds of the program's own names, of its variables and of its tasks; and its lists have as many parts as the grammar asks.
 use Rattle.std.proofs.Common.{ℕ, Bool}
-use Rattle.std.specs.List.{AllByRecursion}
-use Rattle.ada_tree.specs.PlainDecl.{PDecls, no_decl, decl_then}
 use Rattle.ada_tree.specs.PlainProgram.{PProgram}
-use Rattle.ada_tree.specs.Every.{Rules, EveryDecl, EveryDecls, EveryProgram}
-use Rattle.syn_event.specs.DeclaredTasks.{decl_list}
+use Rattle.ada_tree.specs.Every.{EveryProgram}
 use Rattle.normal_laws.specs.structure.checked.Around.{own_rules}
 use Rattle.normal_laws.proofs.structure.checked.Owned.{own-together}
 use Rattle.normal_laws.specs.runs.forms.Normalisable.{made_for}
@@ -14,10 +11,7 @@ use Rattle.replay_structure.proofs.checkable.Kept.{rules_of}
 use Rattle.collect_structure.proofs.kept.Names.{IsKeeping}
 use Rattle.collect_structure.proofs.kept.Main.{main-kept}
 use Rattle.collect_structure.proofs.kept.Declared.{declarations-kept}
-
-every-unlisted : (rules : Rules) (ds : PDecls) → AllByRecursion (EveryDecl rules) (decl_list ds) → EveryDecls rules ds
-every-unlisted rules no_decl h = tt
-every-unlisted rules (decl_then d ds) h = (h.0, every-unlisted rules ds h.1)
+use Rattle.collect_structure.proofs.scopes.Owned.{every-unlisted}
 
 -- All names are such ones.
 pub all-owned : (p : PProgram) (h : IsLegalOriginal p) (kept : ℕ → Bool) → IsKeeping p kept → EveryProgram (own_rules kept) (made_for p)

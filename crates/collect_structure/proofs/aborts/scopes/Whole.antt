@@ -1,10 +1,10 @@
 -- The scopes along the collecting text with abort statements of each legal program are as told.
-use Rattle.std.proofs.Common.{Bool, List, None, Option, Some, [], ap, ap₂, drop, false, is_none, is_some, length, ltb-true, map, nat_lt, not, refl, subst, sym, true, true≢false, ℕ, ℤ, ◌&&◌, ◌<◌, ◌||◌, ◌∙◌, ◌∷◌, ◌≡◌}
+use Rattle.std.proofs.Common.{Bool, List, None, Option, Some, [], ap, ap₂, drop, false, is_none, length, ltb-true, map, nat_lt, not, refl, subst, sym, true, true≢false, ℕ, ℤ, ◌&&◌, ◌<◌, ◌||◌, ◌∙◌, ◌∷◌, ◌≡◌}
 use Rattle.std.specs.List.{AllByRecursion, list_any}
 use Rattle.std.specs.Str.{bytes_eq}
 use Rattle.std.proofs.lemmas.Slice.Eq.{bytes_eq-Decides}
 use Rattle.common_lemmas.proofs.Lists.{all_paired, all_weaker}
-use Rattle.common_lemmas.proofs.Truth.{and_left, and_right}
+use Rattle.common_lemmas.proofs.Truth.{and_left, and_right, and_false}
 use Rattle.ada_tree.specs.Every.{EveryDecl}
 use Rattle.ada_tree.specs.PlainDecl.{DArray, DEnumeration, DException, DIntIo, DNumber, DObject, DPragma, DSubtype, DTask, DTaskBody, PDecl, PTask}
 use Rattle.ada_tree.specs.PlainProgram.{PProgram}
@@ -13,7 +13,7 @@ use Rattle.ada_tree.specs.declared.naming.NameId.{NameId}
 use Rattle.ada_static_rules.specs.Declaring.{after_decls, first_scope}
 use Rattle.ada_static_rules.specs.Refusals.{types_in}
 use Rattle.ada_static_rules.specs.RuleDuplicate.{is_predefined}
-use Rattle.ada_static_rules.specs.Scope.{Scope, Thing, meaning}
+use Rattle.ada_static_rules.specs.Scope.{Scope}
 use Rattle.ada_static_rules.specs.StaticValue.{mark_named, value_named}
 use Rattle.syn_event.proofs.DeclLists.{every_listed, list_again}
 use Rattle.syn_event.specs.AddedNames.{task_info}
@@ -21,12 +21,7 @@ use Rattle.syn_event.specs.DeclaredTasks.{decl_list, tasks_in, tasks_of, text_of
 use Rattle.syn_event.specs.RuleReservedName.{is_reserved}
 use Rattle.syn_event.specs.declared.numbering.TaskInfo.{TaskInfo}
 use Rattle.task_model.specs.Setting.{Setting}
-use Rattle.task_laws.proofs.legal.alike_scopes.Tables.{value-kept}
-use Rattle.task_laws.proofs.legal.types.LaterScopes.{valued-means}
-use Rattle.task_laws.proofs.legal.types.MainScopes.{StandsWhole, last-stands}
-use Rattle.task_laws.proofs.legal.types.TypedValues.{anybody}
 use Rattle.normal_model.specs.NormalTree.{first_decls, main_variables}
-use Rattle.normal_laws.proofs.legality.scopes.Fixed.{literal-plain}
 use Rattle.normal_laws.proofs.legality.scopes.Main as main
 use Rattle.normal_laws.proofs.legality.scopes.Names.{plain-own}
 use Rattle.normal_laws.proofs.structure.numbers.Named.{Has, text-longer, text-there}
@@ -46,7 +41,7 @@ use Rattle.collect_model.specs.Names.{argument_text, gone_text, index_text, kind
 use Rattle.collect_model.specs.aborts.Names.{acceptors_text, refused_text, taken_text}
 use Rattle.collect_model.specs.aborts.Places.{most_places}
 use Rattle.collect_structure.proofs.aborts.declares_once.Few.{legal-has-few}
-use Rattle.collect_structure.proofs.aborts.scopes.Fewer.{formed, legal_is_tellable_here}
+use Rattle.collect_structure.proofs.aborts.scopes.Fewer.{legal_is_tellable_here}
 use Rattle.collect_structure.proofs.aborts.scopes.Inner.{main-told-is}
 use Rattle.collect_structure.proofs.aborts.scopes.Names.{kept-keeping}
 use Rattle.collect_structure.proofs.aborts.scopes.Owned.{all-owned}
@@ -58,12 +53,10 @@ use Rattle.collect_structure.specs.aborts.Names.{added_id, is_further, kept_name
 use Rattle.collect_structure.specs.aborts.asked.Pieces.{IsPlace}
 use Rattle.collect_structure.specs.aborts.scopes.Text.{HasToldScopes, main_told}
 use Rattle.collect_structure.specs.aborts.typed.Told.{AreNewPlaces, ArePlacesOuter}
+use Rattle.collect_structure.proofs.scopes.Known.{value-plain}
+use Rattle.collect_structure.proofs.legal.Bodies.{formed}
 
 -- ---- names that the text adds
-
-none-false : (a : Bool) → (a && false) ≡ false
-none-false true = refl
-none-false false = refl
 
 -- an id of a text that begins as those of places is none that is kept
 further-unkept : (q : PProgram) (id : NameId) → is_further (text_of (names_told q) id) ≡ true → kept_name q id.0 ≡ false
@@ -73,7 +66,7 @@ further-unkept q id f = by_test (nat_lt id.0 (length q.names)) refl
     by_test false e = ap (λ b. (b && not (list_any (bytes_eq (text_of q.names id)) collect.new_texts)) && not (is_further (text_of q.names id))) e
     by_test true e =
         ap (λ b. collect.kept_name q id.0 && not b) (ap is_further (sym (text-longer q.names (names_told q) id (abort-begins q) (ltb-true id.0 (length q.names) e))) ∙ f)
-        ∙ none-false (collect.kept_name q id.0)
+        ∙ and_false (collect.kept_name q id.0)
 
 pub added-unkept : (q : PProgram) (t : List ℕ) → Has (names_told q) t → is_further t ≡ true → kept_name q (added_id q t).0 ≡ false
 added-unkept q t h f = further-unkept q (added_id q t) (ap is_further (text-there (names_told q) t h) ∙ f)
@@ -183,15 +176,6 @@ module _ (p : PProgram) (legal : IsLegalOriginal p) where
 
   -- ---- values
 
-  -- a name with a value is plain, so it is kept
-  value-plain : (id : NameId) (v : ℤ) → value_named (main.first p legal).types id ≡ Some v → plain_name p id.0 ≡ true
-  value-plain id v e =
-      let stands : StandsWhole T (main.last p legal) = last-stands p (main.rules p legal) legal.placed legal.small in
-      let there : value_named T id ≡ Some v = value-kept anybody (main.first p legal).types T (main.last-placed p legal).beside.keeps id refl ∙ e in
-      let m : (y : Thing) × (meaning (main.last p legal) id ≡ Some y) = valued-means stands.stands.root (main.last p legal) stands.stands.over id
-      (ap is_some (sym (value-kept anybody stands.stands.root T stands.whole id refl) ∙ there)) in
-      literal-plain p legal id m.0 m.1
-
   new-value : (id : NameId) → kept id.0 ≡ false → value_named (first q before vars).types id ≡ None
   new-value id n = ap (λ (s : Scope). value_named s.types id) (sym first-is) ∙ by_value (value_named (main.first p legal).types id) refl
     where
@@ -200,7 +184,7 @@ module _ (p : PProgram) (legal : IsLegalOriginal p) where
 
       by_value : (o : Option ℤ) → value_named (main.first p legal).types id ≡ o → o ≡ None
       by_value None e = refl
-      by_value (Some v) e = absurd (true≢false (sym ((kept-keeping p).old id.0 (plain-own p id.0 (value-plain id v e))) ∙ n))
+      by_value (Some v) e = absurd (true≢false (sym ((kept-keeping p).old id.0 (plain-own p id.0 (value-plain p legal id v e))) ∙ n))
 
   -- ---- places
 

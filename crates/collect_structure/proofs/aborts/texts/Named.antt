@@ -36,7 +36,7 @@ recorded-has q t h = has-folded (acceptors_text ∷ each_text ∷ []) (collect_n
 place-begins : (names : List (List ℕ)) (n : ℕ) → Begins (with_places names n) (with_places names (suc n))
 place-begins names n = fold-begins (taken_text (suc n) ∷ refused_text (suc n) ∷ []) (with_places names n)
 
-places-begin : (names : List (List ℕ)) (n : ℕ) → Begins names (with_places names n)
+pub places-begin : (names : List (List ℕ)) (n : ℕ) → Begins names (with_places names n)
 places-begin names zero = begins-refl names
 places-begin names (suc n) = begins-trans (places-begin names n) (place-begins names n)
 

@@ -45,7 +45,7 @@ differ-by a b n = by_test (bytes_eq a b) refl
     by_test false e = refl
     by_test true e = absurd (n ((bytes_eq-Decides a b).0 e))
 
-behind-five : (a b c d e : ℕ) (xs ys : List ℕ) → a ∷ b ∷ c ∷ d ∷ e ∷ xs ≡ a ∷ b ∷ c ∷ d ∷ e ∷ ys → xs ≡ ys
+pub behind-five : (a b c d e : ℕ) (xs ys : List ℕ) → a ∷ b ∷ c ∷ d ∷ e ∷ xs ≡ a ∷ b ∷ c ∷ d ∷ e ∷ ys → xs ≡ ys
 behind-five a b c d e xs ys h = cc
 
 -- ---- ids

@@ -1,5 +1,5 @@
 -- What can be used inside an accept and a loop of a unit, in a collecting text of a program with abort statements: what can be used around it, the variables of the places, and the formal of the caller; and the note of the begin meets the static rules 1 and 3 to 12.
-use Rattle.std.proofs.Common.{◌≡◌, ℕ, ◌==◌, Bool, true, false, not, if◌then◌else◌, [], ◌∷◌, Option, Some, None, is_some, IfSome, refl, sym, ap, subst, ◌∙◌, true≢false, eqb-true, eq-eqb}
+use Rattle.std.proofs.Common.{◌≡◌, ℕ, ◌==◌, Bool, true, false, not, if◌then◌else◌, Option, Some, None, is_some, IfSome, refl, sym, ap, subst, ◌∙◌, true≢false, eqb-true, eq-eqb}
 use Rattle.common_lemmas.proofs.Truth.{and_left, and_right, not_true}
 use Rattle.ada_tree.specs.declared.naming.NameId.{NameId}
 use Rattle.ada_tree.specs.declared.naming.Span.{Span}
@@ -10,25 +10,18 @@ use Rattle.ada_tree.specs.PlainExpr.{EName}
 use Rattle.ada_tree.specs.PlainStmt.{PHead, PScheme, LFor, LWhile}
 use Rattle.ada_tree.specs.PlainProgram.{PProgram}
 use Rattle.ada_tree.specs.Every.{EveryHead}
-use Rattle.ada_static_rules.specs.Scope.{Scope, Thing, Parameter, AsScalar, integer_kind, meaning, reading, reading_of, reading_of_mark, marking, mark_at, kind_at, entry_named, and_then}
-use Rattle.ada_static_rules.specs.ExprTypes.{is_other_kind, name_kind}
+use Rattle.ada_static_rules.specs.Scope.{Scope, Thing, Parameter, AsScalar, integer_kind, meaning, reading_of_mark, marking, mark_at, entry_named, and_then}
 use Rattle.ada_static_rules.specs.Declaring.{with_name, inner_scope, formal_thing, with_formals, first_mark_of, drange_kind, loop_thing}
-use Rattle.ada_static_rules.specs.RuleArrayUse.{whole_array}
-use Rattle.ada_static_rules.specs.RuleMismatch.{no_value}
-use Rattle.ada_static_rules.specs.RuleReadOut.{out_formal}
 use Rattle.ada_static_rules.specs.Sites.{all_names, head_sites, loop_scope}
 use Rattle.task_model.specs.Setting.{Setting, entry_of}
 use Rattle.task_laws.specs.legal.alike_scopes.Alike.{SameThing, SameTypes, SameNames}
 use Rattle.task_laws.specs.legal.alike_scopes.Old.{IsOldExpr}
-use Rattle.task_laws.proofs.legal.alike_scopes.Marks.{scalar-reading}
 use Rattle.normal_model.specs.RewrittenUnit.{RewrittenUnit}
 use Rattle.normal_model.specs.Ranges.{word_at}
 use Rattle.normal_laws.specs.structure.checked.Around.{own_rules}
 use Rattle.normal_laws.proofs.structure.typed.Literals.{integer-marked}
-use Rattle.normal_laws.proofs.structure.typed.Places.{met-node}
 use Rattle.normal_laws.proofs.structure.typed.Scopes.{meaning-more, loop-no-task}
 use Rattle.normal_laws.proofs.structure.typed.Variables.{AllMetBut}
-use Rattle.replay_structure.specs.typed.Controller.{IsInteger}
 use Rattle.replay_structure.specs.typed.ScopeOf.{AreInner, IsInnerScheme}
 use Rattle.replay_structure.proofs.typed.Tests.{IsFit}
 use Rattle.collect_model.specs.Names.{caller_text}
@@ -41,34 +34,12 @@ use Rattle.collect_structure.proofs.typed.Notes.{CallMet, note-met}
 use Rattle.collect_structure.proofs.typed.Calls.{x}
 use Rattle.collect_structure.proofs.typed.Accepts.{there-is, begun-fit}
 use Rattle.collect_structure.proofs.typed.Scopes.{IsStep, formals-step, one-step}
-use Rattle.collect_structure.proofs.typed.Inside.{IsCallerApart, formals-own, accept-scope}
+use Rattle.collect_structure.proofs.typed.Inside.{IsCallerApart, accept-scope}
 use Rattle.collect_model.specs.aborts.AbortTeller.{AbortTeller}
 use Rattle.collect_structure.specs.aborts.typed.Told.{ArePlacesOuter, IsOutside, SeesPlaces}
 use Rattle.collect_structure.proofs.aborts.typed.Places.{places-step}
-
--- a formal of mode in of INTEGER
-parameter-fit : (d : Scope) (id : NameId) (s : Span) (m : ℕ) → meaning d id ≡ Some (Parameter Take m) →
-    reading_of_mark d.types (mark_at d.types m) ≡ AsScalar integer_kind → IsFit d integer_kind (EName id s)
-parameter-fit d id s m means r =
-    let read : reading d id ≡ AsScalar integer_kind = ap (reading_of d.types) means ∙ r in
-    record {
-      kind = ap (λ q. is_other_kind (Some integer_kind) (name_kind q)) read;
-      raised = refl;
-      parts = (
-        met-node d false (EName id s) record {
-          known = ap (λ o. if is_some o then [] else s ∷ []) means;
-          matched = ap (λ q. no_value q s) read;
-          readable = ap (λ o. out_formal o s) means;
-          counted = refl;
-          arrays = ap (λ q. whole_array q s) read;
-          texts = refl;
-        },
-        tt,
-      );
-    }
-
-integer-read : (d : Scope) (int : IsInteger d) → reading_of_mark d.types (mark_at d.types int.its.place) ≡ AsScalar integer_kind
-integer-read d int = ap (reading_of_mark d.types) int.its.there ∙ scalar-reading int.its.mark.kind (kind_at d.types int.its.mark.kind) int.its.scalar.0 int.its.scalar.1 ∙ ap AsScalar int.its.kind
+use Rattle.collect_structure.proofs.typed.Typed.{parameter-fit, integer-read}
+use Rattle.ada_static_rules.proofs.found_twice.Declared.{formals_own as formals-own}
 
 -- ---- accepts
 

@@ -1,5 +1,5 @@
 -- The variables of the places of a unit, in a collecting text of a program with abort statements, meet the static rules 1 and 3 to 12: what is assigned to them, the tests of them, and the note that a rendezvous is over.
-use Rattle.std.proofs.Common.{List, Ok, Some, [], ap, ap₂, if◌then◌else◌, refl, subst, sym, ℕ, ◌∙◌, ◌∷◌, ◌≡◌}
+use Rattle.std.proofs.Common.{List, Some, [], ap, if◌then◌else◌, refl, subst, sym, ℕ, ◌∙◌, ◌∷◌, ◌≡◌}
 use Rattle.common_lemmas.proofs.Lists.{all_front, all_joined}
 use Rattle.ada_tree.specs.PlainExpr.{EInteger, EName, EUnary, PExpr}
 use Rattle.ada_tree.specs.PlainProgram.{PProgram}
@@ -8,7 +8,6 @@ use Rattle.ada_tree.specs.declared.expressions.UnaryOp.TheVariants.{Not}
 use Rattle.ada_tree.specs.declared.naming.NameId.{NameId}
 use Rattle.ada_tree.specs.declared.naming.Span.{Span}
 use Rattle.ada_tree.specs.declared.statements.ParMode.TheVariants.{Give}
-use Rattle.ada_static_rules.specs.Declaring.{predefined_types}
 use Rattle.ada_static_rules.specs.Demand.{must_be_of}
 use Rattle.ada_static_rules.specs.ExprTypes.{is_other_kind}
 use Rattle.ada_static_rules.specs.RuleMismatch.{of_other_kind}
@@ -17,10 +16,8 @@ use Rattle.ada_static_rules.specs.Sites.{actuals_sites, condition_sites, expr_si
 use Rattle.task_laws.proofs.legal.rewritten_types.Keeping.{keeps-self}
 use Rattle.task_laws.specs.legal.alike_scopes.Laws.{IsMetBut}
 use Rattle.task_laws.specs.legal.rewritten_types.Agreement.{Keeps}
-use Rattle.normal_model.specs.Ranges.{truth_subtype}
 use Rattle.normal_laws.proofs.structure.typed.Places.{met-of}
 use Rattle.normal_laws.proofs.structure.typed.Variables.{AllMetBut, actual-met, assigned-met, of-kind, variable-met}
-use Rattle.normal_laws.specs.structure.typed.ScopeOf.{IsVariableOf}
 use Rattle.replay_structure.proofs.scopes.Permit.{number-step, only}
 use Rattle.replay_structure.proofs.typed.Calls.{listed-call}
 use Rattle.replay_structure.proofs.typed.Tests.{IsFit, compared, fit-met, fit-of, literal-fit, loose-met, not-fit, number-kind, number-variable}
@@ -28,7 +25,7 @@ use Rattle.replay_structure.specs.typed.ScopeOf.{IsNumber}
 use Rattle.collect_model.specs.Names.{added_in, answer_text, argument_text, collect_names, index_text, owner_text, reply_text, subject_text}
 use Rattle.collect_model.specs.Noting.{at_finish, number, own_number}
 use Rattle.collect_model.specs.Teller.{Teller}
-use Rattle.collect_structure.proofs.typed.Notes.{CallMet, answer-met, take-met, truth-kind}
+use Rattle.collect_structure.proofs.typed.Notes.{CallMet, answer-met, take-met, truth-kind, truth-variable}
 use Rattle.collect_structure.proofs.scopes.Unit.{truth-step}
 use Rattle.collect_structure.specs.Names.{added_id}
 use Rattle.collect_structure.specs.typed.Told.{IsRecorder, IsTruth, in_number, note_parts}
@@ -53,20 +50,6 @@ places-step x most d d' a b types h = record {
     kept id = subst (Keeps (only id) d.types) (sym types) (keeps-self d.types)
 
 -- ---- what is assigned
-
--- a variable of BOOLEAN is one with that subtype
-abbrev truth-variable : (d : Scope) (id : NameId) (s : Span) → IsTruth d id → IsVariableOf predefined_types d id (truth_subtype s)
-truth-variable d id s v = record {
-  place = v.place;
-  mark = v.mark;
-  means = v.means;
-  there = v.there;
-  scalar = v.scalar;
-  limits =
-      subst (λ k. Ok (record { kind = truth_kind; first = _; last = _ }) ≡ Ok (record { kind = k; first = v.mark.first; last = v.mark.last })) (sym v.kind)
-      (ap₂ (λ a b. Ok (record { kind = truth_kind; first = a; last = b })) (sym v.first) (sym v.last));
-  changes = v.changes;
-}
 
 -- a number is kept in a variable
 pub number-kept-met : (d : Scope) (a b : NameId) (s : Span) → IsNumber d a → IsFit d integer_kind (EName b s) → AllMetBut (stmt_sites d (variable_is s a b))

@@ -1,6 +1,6 @@
 -- The body of the recorder of a collecting text of a program with abort statements meets the static rules 1 and 3 to 12.
-use Rattle.std.proofs.Common.{Bool, List, None, Some, [], ap, drop, eq-eqb, eqb-true, false, length, pos, refl, subst, sym, take, true, true≢false, ℕ, ◌&&◌, ◌++◌, ◌==◌, ◌||◌, ◌∙◌, ◌∷◌, ◌≡◌}
-use Rattle.std.specs.List.{AllByRecursion, list_any}
+use Rattle.std.proofs.Common.{List, None, Some, [], ap, drop, false, length, pos, refl, subst, sym, take, ℕ, ◌++◌, ◌==◌, ◌∙◌, ◌∷◌, ◌≡◌}
+use Rattle.std.specs.List.{AllByRecursion}
 use Rattle.common_lemmas.proofs.Lists.{all_joined}
 use Rattle.ada_tree.specs.Lexical.{IsInteger as IsLiteral}
 use Rattle.ada_tree.specs.NameList.{predefined}
@@ -16,8 +16,6 @@ use Rattle.ada_tree.specs.declared.static_types.Kind.TheVariants.{Array}
 use Rattle.ada_tree.specs.declared.static_types.Mark.{Mark}
 use Rattle.ada_static_rules.specs.Declaring.{add_kind, add_mark, after_objects, after_own_object, formal_thing, in_body, inner_scope, own_entries, with_formals, with_name, with_names, with_types}
 use Rattle.ada_static_rules.specs.Demand.{Site}
-use Rattle.ada_static_rules.specs.RuleArgCount.{are_same, written_formals}
-use Rattle.ada_static_rules.specs.RuleDuplicate.{is_predefined}
 use Rattle.ada_static_rules.specs.Scope.{Parameter, Scope, Thing, Variable, entry_named, integer_kind, marking, marking_of, meaning, reading_of, single}
 use Rattle.ada_static_rules.specs.Sites.{accept_sites, body_sites, decl_sites, head_sites, own_object_sites, own_sites, stmt_sites, stmts_sites}
 use Rattle.syn_event.specs.declared.numbering.TaskInfo.{TaskInfo}
@@ -28,7 +26,6 @@ use Rattle.task_laws.specs.legal.alike_scopes.Laws.{IsMetBut}
 use Rattle.task_laws.specs.legal.rewritten_types.Agreement.{IsScalar, Keeps}
 use Rattle.normal_model.specs.Making.{one}
 use Rattle.normal_model.specs.Ranges.{word_at}
-use Rattle.normal_laws.proofs.structure.numbers.Named.{Has}
 use Rattle.normal_laws.proofs.structure.typed.Literals.{integer-marked}
 use Rattle.normal_laws.proofs.structure.typed.Places.{gives-met}
 use Rattle.normal_laws.proofs.structure.typed.Variables.{AllMetBut}
@@ -38,14 +35,13 @@ use Rattle.replay_structure.proofs.typed.Control.{integer-range, listed-accept}
 use Rattle.replay_structure.specs.typed.Controller.{IsInteger}
 use Rattle.replay_structure.specs.typed.ScopeOf.{HasLists, IsSingle}
 use Rattle.collect_model.specs.Lines.{header_put}
-use Rattle.collect_model.specs.Names.{added_in, added_texts, argument_text, collect_names, gone_text, index_text, kind_text, met_text, owner_text, reply_text, subject_text}
+use Rattle.collect_model.specs.Names.{added_in, argument_text, collect_names, gone_text, index_text, kind_text, met_text, owner_text, reply_text, subject_text}
 use Rattle.collect_model.specs.Recording.{flags_declared, note_formals}
 use Rattle.collect_model.specs.declared.AddedNames.{AddedNames}
 use Rattle.collect_structure.proofs.declares_once.Ids.{new-not-predefined, texts-apart}
 use Rattle.collect_structure.proofs.typed.Added.{name-keeps, name-means, note-formals-met, predefined-step}
 use Rattle.collect_structure.proofs.typed.Flags.{flags-declared-behind, flags-declared-met, flags-declared-seen, flags-step, flags-type-step}
 use Rattle.collect_structure.proofs.typed.Truths.{truth-marked, truth-range}
-use Rattle.collect_structure.specs.Names.{added_id, new_texts}
 use Rattle.collect_structure.specs.typed.Recording.{AreFlags, ArePredefined, IsFlagsType, IsInNumber, IsOutTruth, IsRecording, integer_values, truth_values}
 use Rattle.collect_structure.specs.typed.Told.{note_parts}
 use Rattle.collect_model.specs.aborts.AbortTeller.{AbortTeller}
@@ -53,25 +49,7 @@ use Rattle.collect_model.specs.aborts.Recording.{calls_declared, note_accept, no
 use Rattle.collect_structure.proofs.aborts.typed.Noted.{IsTaking, note-taken-met}
 use Rattle.collect_structure.proofs.aborts.typed.Tables.{place, table-grows, table-seen, table-step, table_types, tables-declared-behind, tables-declared-met}
 use Rattle.collect_structure.specs.aborts.typed.Recording.{AreApart, IsNone, IsTable, formal_names}
-
--- names of formals, none of which is this
-abbrev AreOther : List Word → NameId → Type 0
-AreOther ws id = AllByRecursion (λ (w : Word). (w.name.0 == id.0) ≡ false) ws
-
--- a word is among words, in front or behind
-in-front : (w : Word) (ws : List Word) → IsIn (w ∷ ws) w.name
-in-front w ws = ap (λ b. b || list_any (λ (x : Word). x.name.0 == w.name.0) ws) (eq-eqb w.name.0 w.name.0 refl)
-
-in-behind : (w : Word) (ws : List Word) (id : NameId) → IsIn ws id → IsIn (w ∷ ws) id
-in-behind w ws id h = by_test (w.name.0 == id.0)
-  where
-    by_test : (b : Bool) → (b || list_any (λ (x : Word). x.name.0 == id.0) ws) ≡ true
-    by_test true = refl
-    by_test false = h
-
--- nothing is refused at places, and at none behind them
-behind-none : (xs : List Site) → AllMetBut xs → AllMetBut (xs ++ [])
-behind-none xs m = all_joined IsMetBut xs [] m tt
+use Rattle.collect_structure.proofs.typed.Recorder.{AreOther, in-front, in-behind, behind-none, new-other, five-predefined, five-gone, five-met, same-formals}
 
 -- tasks that can be seen
 abbrev pub AreSeen : Scope → List TaskInfo → Type 0
@@ -104,14 +82,6 @@ module _ (q : PProgram) (begins : take (length predefined) q.names ≡ predefine
 
   -- ---- names
 
-  -- a new name is none of the predefined ones
-  new-other : (t : List ℕ) → Has added_texts t → Has new_texts t → (k : ℕ) → is_predefined k ≡ true → ((added_id q t).0 == k) ≡ false
-  new-other t h i k e = by_test ((added_id q t).0 == k) refl
-    where
-      by_test : (b : Bool) → ((added_id q t).0 == k) ≡ b → b ≡ false
-      by_test false f = refl
-      by_test true f = absurd (true≢false (sym e ∙ sym (ap is_predefined (eqb-true (added_id q t).0 k f)) ∙ new-not-predefined q begins t h i))
-
   abbrev last_two : List Word
   last_two = word_at s n.index ∷ word_at s n.owner ∷ []
 
@@ -123,41 +93,6 @@ module _ (q : PProgram) (begins : take (length predefined) q.names ≡ predefine
 
   abbrev reply : List Word
   reply = word_at s n.reply ∷ []
-
-  five-predefined : (k : ℕ) → is_predefined k ≡ true → AreOther five (record { 0 = k })
-  five-predefined k e = (
-    new-other kind_text refl refl k e,
-    (new-other subject_text refl refl k e, (new-other argument_text refl refl k e, (new-other index_text refl refl k e, (new-other owner_text refl refl k e, tt)))),
-  )
-
-  five-gone : AreOther five n.gone
-  five-gone = (
-    texts-apart q kind_text gone_text refl refl refl refl,
-    (
-      texts-apart q subject_text gone_text refl refl refl refl,
-      (texts-apart q argument_text gone_text refl refl refl refl, (texts-apart q index_text gone_text refl refl refl refl, (texts-apart q owner_text gone_text refl refl refl refl, tt))),
-    ),
-  )
-
-  five-met : AreOther five n.met
-  five-met = (
-    texts-apart q kind_text met_text refl refl refl refl,
-    (
-      texts-apart q subject_text met_text refl refl refl refl,
-      (texts-apart q argument_text met_text refl refl refl refl, (texts-apart q index_text met_text refl refl refl refl, (texts-apart q owner_text met_text refl refl refl refl, tt))),
-    ),
-  )
-
-  same-name : (id : NameId) → (id.0 == id.0) ≡ true
-  same-name id = eq-eqb id.0 id.0 refl
-
-  -- the formals of an accept are those of the entry
-  same-formals : are_same (written_formals (note_formals n s)) (note_parts q) ≡ true
-  same-formals = all-six (same-name n.kind) (same-name n.subject) (same-name n.argument) (same-name n.index) (same-name n.owner) (same-name n.reply)
-    where
-      all-six : {a b c d e f : Bool} → a ≡ true → b ≡ true → c ≡ true → d ≡ true → e ≡ true → f ≡ true →
-          (a && true && true && (b && true && true && (c && true && true && (d && true && true && (e && true && true && (f && true && true && true)))))) ≡ true
-      all-six h i j k l m = simp (h, i, j, k, l, m)
 
   -- ---- the accept
 
@@ -178,7 +113,7 @@ module _ (q : PProgram) (begins : take (length predefined) q.names ≡ predefine
     answering = formal_thing Give (marking middle (record { 0 = 3 }))
 
     answering-is : answering ≡ Parameter Give known.truth.place
-    answering-is = ap (formal_thing Give) (ap (marking_of e.types) (middle-kept (record { 0 = 3 }) (five-predefined 3 refl)) ∙ truth-marked e known.truth)
+    answering-is = ap (formal_thing Give) (ap (marking_of e.types) (middle-kept (record { 0 = 3 }) (five-predefined q begins s 3 refl)) ∙ truth-marked e known.truth)
 
     abbrev inside : Scope
     inside = with_formals (inner_scope e) (note_formals n s)
@@ -226,7 +161,7 @@ module _ (q : PProgram) (begins : take (length predefined) q.names ≡ predefine
 
     taking : IsTaking x inside
     taking = record {
-      known = predefined-step e inside (λ k p. inside-kept (record { 0 = k }) (five-predefined k p) (new-other reply_text refl refl k p)) (keeps-self e.types) known;
+      known = predefined-step e inside (λ k p. inside-kept (record { 0 = k }) (five-predefined q begins s k p) (new-other q begins s reply_text refl refl k p)) (keeps-self e.types) known;
       kind = number-seen n.kind (in-front (word_at s n.kind) last_four) (texts-apart q reply_text kind_text refl refl refl refl);
       subject =
           number-seen n.subject (in-behind (word_at s n.kind) last_four n.subject (in-front (word_at s n.subject) (word_at s n.argument ∷ last_two)))
@@ -241,8 +176,8 @@ module _ (q : PProgram) (begins : take (length predefined) q.names ≡ predefine
           number-seen n.owner (in-two n.owner (in-behind (word_at s n.index) (word_at s n.owner ∷ []) n.owner (in-front (word_at s n.owner) [])))
           (texts-apart q reply_text owner_text refl refl refl refl);
       reply = reply-seen;
-      gone = flags-step e inside n.gone (inside-kept n.gone five-gone (texts-apart q reply_text gone_text refl refl refl refl)) (grows-self e.types) gone;
-      met = table-step e inside n.met (inside-kept n.met five-met (texts-apart q reply_text met_text refl refl refl refl)) (grows-self e.types) met;
+      gone = flags-step e inside n.gone (inside-kept n.gone (five-gone q begins s) (texts-apart q reply_text gone_text refl refl refl refl)) (grows-self e.types) gone;
+      met = table-step e inside n.met (inside-kept n.met (five-met q begins s) (texts-apart q reply_text met_text refl refl refl refl)) (grows-self e.types) met;
       acceptors = table-step e inside z.acceptors (free-kept z.acceptors apart.formals) (grows-self e.types) acceptors;
       tasks = tasks-inside infos tasks apart.tasks;
     }
@@ -251,7 +186,7 @@ module _ (q : PProgram) (begins : take (length predefined) q.names ≡ predefine
     accept-met own =
         let head : PHead = record { entry = word_at s n.note; index = None; formals = note_formals n s; span = s } in
         all_joined IsMetBut (head_sites e head) (stmts_sites inside (note_taken x s))
-        (listed-accept e head single (note_parts q) own refl same-formals tt (note-formals-met n e known s e known.integer.its known.truth)) (note-taken-met x apart few inside taking s)
+        (listed-accept e head single (note_parts q) own refl (same-formals q begins s) tt (note-formals-met n e known s e known.integer.its known.truth)) (note-taken-met x apart few inside taking s)
 
     -- the loop
     notes-met : HasLists (entry_named e.own n.note) single (note_parts q) → AllMetBut (stmt_sites e (notes_taken x s))

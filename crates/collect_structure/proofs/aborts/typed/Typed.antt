@@ -1,14 +1,13 @@
 -- Each piece of a collecting text of a program with abort statements meets the static rules 1 and 3 to 12, and so does the body of a unit.
-use Rattle.std.proofs.Common.{◌≡◌, ℕ, ◌≤◌, Bool, List, [], Option, Some, None, IfSome, refl, subst, sym}
+use Rattle.std.proofs.Common.{◌≡◌, ℕ, ◌≤◌, Bool, List, [], refl, subst, sym}
 use Rattle.std.specs.List.{AllByRecursion}
 use Rattle.std.proofs.lemmas.List.Elements.{recursion_from_All}
 use Rattle.ada_tree.specs.declared.naming.Span.{Span}
 use Rattle.ada_tree.specs.PlainExpr.{PExpr, EInteger}
-use Rattle.ada_tree.specs.PlainStmt.{PArgs, PChoice, PCall, PBody}
+use Rattle.ada_tree.specs.PlainStmt.{PChoice, PCall, PBody}
 use Rattle.ada_tree.specs.PlainProgram.{PProgram}
-use Rattle.ada_tree.specs.Every.{Rules, EveryWord, EveryArgs, EveryChoice}
+use Rattle.ada_tree.specs.Every.{Rules, EveryWord, EveryChoice}
 use Rattle.ada_static_rules.specs.Scope.{Scope, integer_kind}
-use Rattle.ada_static_rules.specs.Demand.{Site}
 use Rattle.ada_static_rules.specs.RuleArrayUse.{array_in_node}
 use Rattle.ada_static_rules.specs.Sites.{body_sites}
 use Rattle.task_model.specs.Setting.{Setting}
@@ -23,7 +22,6 @@ use Rattle.normal_laws.specs.structure.checked.Around.{own_rules}
 use Rattle.normal_laws.proofs.structure.typed.Cases.{with_cases, cases_asked}
 use Rattle.normal_laws.proofs.structure.typed.Stays.{old-expr, old-choices, no-array, condition-stays, loop-stays, choices-stay, selector-stays, handler-stays, plain-stays}
 use Rattle.replay_model.specs.Asking.{member_number}
-use Rattle.replay_structure.proofs.typed.Calls.{AreOldArgs, old-args}
 use Rattle.replay_structure.proofs.typed.Tests.{IsFit, literal-fit}
 use Rattle.collect_model.specs.Names.{answer_text, collect_names, added_in}
 use Rattle.collect_model.specs.Teller.{Teller, task_of}
@@ -45,9 +43,8 @@ use Rattle.collect_structure.specs.aborts.typed.Told.{ArePlacesOuter, SeesPlaces
 use Rattle.collect_structure.proofs.aborts.asked.Walk.{main-keeps, task-keeps}
 use Rattle.collect_structure.proofs.aborts.typed.Inside.{inside-told, inside-places, caller-fit, begun-met, loop-places}
 use Rattle.collect_structure.proofs.aborts.typed.Places.{number-kept-met, truth-kept-met, not-truth-met, part-is-met, is-taken-met, over-met}
-
-same : (s : Site) → IsMetBut s → IsMetBut s
-same s m = m
+use Rattle.replay_structure.proofs.typed.Typed.{same}
+use Rattle.collect_structure.proofs.typed.Typed.{if-args}
 
 -- what a unit is told, by another teller
 abbrev pub telling_by : AbortTeller → Teller → AbortTeller
@@ -82,10 +79,6 @@ module _ (g : Setting) (task : ℕ) (old inner : ℕ → Bool) (outer : AreOuter
   -- nothing more is to be known of nesting
   abbrev H : ℕ → Type 0
   H k = Prim.Unit {0}
-
-  if-args : (k : ℕ) (o : Option PArgs) → IfSome o (EveryArgs r k) → IfSome o (AreOldArgs old)
-  if-args k None h = tt
-  if-args k (Some args) h = old-args old k args h
 
   -- what a unit is told without aborts
   abbrev pub told : Teller
@@ -136,7 +129,7 @@ module _ (g : Setting) (task : ℕ) (old inner : ℕ → Bool) (outer : AreOuter
       aborts = λ c d k n xs rel h le. tt;
       handlers = λ hs t h. tt;
       handled = λ c d k n ids ws rel h le. handler-stays IsMetBut same old c.1 d rel.0.names ids ws (recursion_from_All (EveryWord r) ws h.0) h.1;
-      telling = λ c d k j n s v rel h un i m le. telling-met g task old inner c.1 d rel.0 v i.0.0 i.1.1 (if-args j v.args m.0.1) m.1 s;
+      telling = λ c d k j n s v rel h un i m le. telling-met g task old inner c.1 d rel.0 v i.0.0 i.1.1 (if-args g task old inner outer apart j v.args m.0.1) m.1 s;
       head = λ c d k n h rel i le. head-met g task old inner c.1 d rel.0 k h i.0.0.1 i.0.1.1 i.0.1.0;
       wait = λ c d k n xs others s t p rel near place w all le. tt;
       delay = λ c d k n guard s rel near h le. tt;
@@ -145,8 +138,8 @@ module _ (g : Setting) (task : ℕ) (old inner : ℕ → Bool) (outer : AreOuter
       own = λ c d k n s kind rel h few le. own-met c d rel.0 s kind 0;
       aborted = λ c d k n s v rel h i m le. own-met c d rel.0 s at_abort (task_of g.numbers v.name.name);
       delayed = λ c d k n xs others t s place rel h w few le. own-met c d rel.0 s has_delay place;
-      told = λ c d k j n s kind v rel h un i m few le. call-met c d rel.0 s kind v (index-fit g task old inner c.1 d rel.0 v i.0.0 i.1.1 (if-args j v.args m.0.1) m.1 s);
-      failed = λ c d k j n s v rel h un i m le. call-met c d rel.0 s has_failed v (index-fit g task old inner c.1 d rel.0 v i.0.0 i.1.1 (if-args j v.args m.0.1) m.1 s);
+      told = λ c d k j n s kind v rel h un i m few le. call-met c d rel.0 s kind v (index-fit g task old inner c.1 d rel.0 v i.0.0 i.1.1 (if-args g task old inner outer apart j v.args m.0.1) m.1 s);
+      failed = λ c d k j n s v rel h un i m le. call-met c d rel.0 s has_failed v (index-fit g task old inner c.1 d rel.0 v i.0.0 i.1.1 (if-args g task old inner outer apart j v.args m.0.1) m.1 s);
       begun = λ c d k n s h rel i le. begun-met g task old inner outer apart c.1 d k h rel.0 i.0.0.1 i.0.1.1 i.0.1.2 i.0.1.0 i.1 s;
       over = λ c d k n s p rel h place le. over-met q y refl d rel.0.recorder rel.0.answer s p (rel.1.taken p place);
       takes = λ c d k n s h p rel i place le.

@@ -14,4 +14,5 @@ pub put_last_double-requires-clause-others : goal.put_last_double-requires-claus
 put_last_double-requires-clause-others c =
     let last = c.loop-i-test.false in
     let end = c.loop-i.auto.i-end in
-    c.loop-i.invariant.ids ∙ ap (λ n. map (λ t. id_of c.args.names.now (double_text t)) (take n c.args.originals.now)) (omega (arith, last, end))
+    let all : c.loop-i.i ≡ 4294967295 = omega (arith, last, end) in
+    c.loop-i.invariant.ids ∙ ap (λ n. map (λ t. id_of c.args.names.now (double_text t)) (take n c.args.originals.now)) all
