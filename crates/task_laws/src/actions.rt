@@ -1,4 +1,4 @@
-//! How many tasks and entries a program has, and how many actions apply in it. The crate has no functions of its own but the one that carries the laws.
+//! How many tasks and entries a program has, and how many actions apply in it. The module has no functions of its own but the one that carries the laws.
 
 ghost use Rattle.task_laws.specs.actions.Laws.{FewActions, FewEntries, FewTasks};
 
