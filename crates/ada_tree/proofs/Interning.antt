@@ -6,10 +6,10 @@ use Rattle.std.proofs.lemmas.Slice.Eq.{bytes_eq-Decides}
 use Rattle.std.proofs.lemmas.List.Quantifiers.{position-Some}
 use Rattle.std.proofs.lemmas.List.{take-append-le, length-take, map-append, take_more, append-nil, append_assoc}
 use Rattle.std.proofs.lemmas.List.Sums.{fold-append}
-use Rattle.std.proofs.lemmas.Option.{slice_get-map, slice_get-get_or, slice_get_within}
+use Rattle.std.proofs.lemmas.Option.{slice_get-map, slice_get-get_or, slice_get_read, slice_get_within}
+use Rattle.std.proofs.Math.Seq.{get_or-append_seam}
 use Rattle.indexmap.specs.IndexSet.{insert_key}
 use Rattle.ada_tree.specs.NameList.{predefined, AreNames, interned}
-use Rattle.common_lemmas.proofs.Lists.{last_at}
 
 -- a test of the texts is a test of the keys
 pub list_any-map : {K : Type 0} (p : List ℕ → Bool) (g : K → List ℕ) (ks : List K) → list_any p (map g ks) ≡ list_any (λ k. p (g k)) ks
@@ -116,6 +116,10 @@ slice_get-longer [] ys x i at = cc
 slice_get-longer (y ∷ xs) ys x zero at = at
 slice_get-longer (y ∷ xs) ys x (suc i) at = slice_get-longer xs ys x i at
 
+-- what stands between a front and the rest has the place of the front's length
+pub seam : (ts us : List (List ℕ)) (u : List ℕ) → slice_get (ts ++ u ∷ us) (length ts) ≡ Some u
+seam ts us u = slice_get_read (ts ++ u ∷ us) _ (length ts) u refl (omega (arith, length-append ts (u ∷ us))) (sym (get_or-append_seam ts u us u))
+
 -- interning all texts of a list in which none stands twice gives that list
 pub fold_distinct :
     (ts us : List (List ℕ)) →
@@ -128,7 +132,7 @@ fold_distinct ts (u ∷ us) distinct =
     append_assoc ts (u ∷ []) us
   where
     at_seam : slice_get (ts ++ u ∷ us) (length ts) ≡ Some u
-    at_seam = rw append_assoc at (slice_get-longer (ts ++ u ∷ []) us u (length ts) (last_at ts u))
+    at_seam = seam ts us u
 
     none : (b : Bool) → list_any (bytes_eq u) ts ≡ b → list_any (bytes_eq u) ts ≡ false
     none false e = e

@@ -21,4 +21,5 @@ mod waits;
 
 pub use aborts::has_abort;
 pub use choosing::collecting;
+pub use collect_xform::header_text;
 pub use program::collect;

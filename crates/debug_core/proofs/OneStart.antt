@@ -18,7 +18,7 @@ use Rattle.debug_core.specs.RuleFaults.{IsIllegal}
 use Rattle.debug_core.specs.Starts.{IsStart, IsRefusedStart}
 use Rattle.debug_core.proofs.OneText.{one_program, read_or_unreadable, one_unreadable_text}
 use Rattle.debug_core.proofs.OneIllegal.{one_illegal, legal_or_illegal}
-use Rattle.debug_core.proofs.ShortNumbers.{short_tasks}
+use Rattle.task_laws.proofs.actions.Numbers.{tasks_are_few}
 
 -- ---- by the static rules
 
@@ -72,7 +72,7 @@ module _ (numbers : Numbering) (few : length numbers.tasks < 2 ^ 32) where
 
 module _ (text : List ℕ) (m : Mode) (bytes : Option (List ℕ)) where
   few_in : (p : PProgram) (types : TypeTable) (numbers : Numbering) → IsLegalText text m p types numbers → length numbers.tasks < 2 ^ 32
-  few_in p types numbers h = short_tasks p types numbers m h.legal
+  few_in p types numbers h = tasks_are_few p types numbers m h.legal
 
   pub one_refused_start : (o q : Outcome) → IsRefusedStart text m bytes o → IsRefusedStart text m bytes q → o ≡ q
   one_refused_start o q (inl h) (inl k) = one_refused_text text m o q h k

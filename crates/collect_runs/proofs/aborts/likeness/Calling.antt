@@ -283,10 +283,10 @@ module _ (x : Ground) (made : AreMade x.programs) (s : Span) (c : PCall) (asked 
   behind-pass none_copied k K all V W near a = all V W near
   behind-pass (copied_then y ys e es cp more) k K all V W near a =
       joined x (actual_behind g s y.mode e k) (actuals_behind g s ys es (k + 1)) K V W
-      (go y.mode e cp a.0 (behind-skip ys es (k + 1) K (always-skips x K all)) (λ V1 W1 n r. behind-pass more (k + 1) K all V1 W1 n r))
+      (go y.mode e cp a.0 (behind-skip ys es (k + 1) K (always-skips x K all)) (λ Va Wa n r. behind-pass more (k + 1) K all Va Wa n r))
     where
       assigned-back : (at : Span) (id : NameId) → IsOld b id → Agree x V W (variable_name g k) → Skipped x (Passes x (actuals_behind g s ys es (k + 1)) K) →
-          ((V1 W1 : Variables) → Near x V1 W1 → AgreeBack x ys es (k + 1) V1 W1 → Passes x (actuals_behind g s ys es (k + 1)) K V1 W1) →
+          ((Va Wa : Variables) → Near x Va Wa → AgreeBack x ys es (k + 1) Va Wa → Passes x (actuals_behind g s ys es (k + 1)) K Va Wa) →
           Passes x (one (SAssign (record { name = word_at at id; index = None }) (variable g s k) s)) (Passes x (actuals_behind g s ys es (k + 1)) K) V W
       assigned-back at id old q skip ih = (
         (λ cells d.
@@ -299,7 +299,7 @@ module _ (x : Ground) (made : AreMade x.programs) (s : Span) (c : PCall) (asked 
       )
 
       go : (d : ParMode) (e1 : PExpr) → IsCopied b d e1 → BackAgree x d k V W → Skipped x (Passes x (actuals_behind g s ys es (k + 1)) K) →
-          ((V1 W1 : Variables) → Near x V1 W1 → AgreeBack x ys es (k + 1) V1 W1 → Passes x (actuals_behind g s ys es (k + 1)) K V1 W1) →
+          ((Va Wa : Variables) → Near x Va Wa → AgreeBack x ys es (k + 1) Va Wa → Passes x (actuals_behind g s ys es (k + 1)) K Va Wa) →
           Passes x (actual_behind g s d e1 k) (Passes x (actuals_behind g s ys es (k + 1)) K) V W
       go _ _ (only_taken e1) q skip ih = ih V W near a.1
       go _ _ (given_back id sp old) q skip ih = assigned-back sp id old q skip ih
@@ -343,16 +343,16 @@ module _ (x : Ground) (made : AreMade x.programs) (s : Span) (c : PCall) (asked 
         by : (q : Option PExpr) → mv ≡ q → Passes x (due_before g s (dues_of q ++ (dues_of asked.index ++ ads)) n) K V W
         by None m =
             let i : index_n ≡ n = number-index ∙ ap (λ q. n + length (dues_of q)) m ∙ (let z : n + 0 ≡ n = omega arith in z) in
-            dues-pass x s more-dues n K (λ V1 W1. Unit {0}) (λ V1 W1 id v k f a. tt) skip
-            (λ V1 W1 k f a. go V1 W1 k (λ e q. absurd (let f : None ≡ Some e = sym m ∙ q in let none : ⊥ = cc in none)) (ready-of asked.index index_n actual_n number-actual V1 W1 (subst (λ j. AgreeDues x (dues_of asked.index ++ ads) j V1 W1) (sym i) a)))
+            dues-pass x s more-dues n K (λ Va Wa. Unit {0}) (λ Va Wa id v k f a. tt) skip
+            (λ Va Wa k f a. go Va Wa k (λ e q. absurd (let f : None ≡ Some e = sym m ∙ q in let none : ⊥ = cc in none)) (ready-of asked.index index_n actual_n number-actual Va Wa (subst (λ j. AgreeDues x (dues_of asked.index ++ ads) j Va Wa) (sym i) a)))
             V W near tt
         by (Some e) m =
             let i : index_n ≡ n + 1 = number-index ∙ ap (λ q. n + length (dues_of q)) m in
-            assigns x s n e (due_before g s (dues_of asked.index ++ ads) (n + 1)) K (λ V1 W1. Unit {0}) (λ V1 W1 v k f a. tt) (dues-skip x s (dues_of asked.index ++ ads) (n + 1) K skip) V W near
+            assigns x s n e (due_before g s (dues_of asked.index ++ ads) (n + 1)) K (λ Va Wa. Unit {0}) (λ Va Wa v k f a. tt) (dues-skip x s (dues_of asked.index ++ ads) (n + 1) K skip) V W near
             (worth x V W near (some-old e (subst (OldOption b) (moving-is b made c.task.index e m) old.member))) tt
             (λ cells v q fits k f a.
-            dues-pass x s more-dues (n + 1) K (λ V1 W1. InRange x n V1 × Agree x V1 W1 (variable_name g n)) (both-stable x (λ V1 W1. InRange x n V1) (λ V1 W1. Agree x V1 W1 (variable_name g n)) (range-stable x n) (agree-stable x (variable_name g n))) skip
-            (λ V2 W2 k2 f2 d. go V2 W2 k2 (λ e2 q2. f2) (ready-of asked.index index_n actual_n number-actual V2 W2 (subst (λ j. AgreeDues x (dues_of asked.index ++ ads) j V2 W2) (sym i) d)))
+            dues-pass x s more-dues (n + 1) K (λ Va Wa. InRange x n Va × Agree x Va Wa (variable_name g n)) (both-stable x (λ Va Wa. InRange x n Va) (λ Va Wa. Agree x Va Wa (variable_name g n)) (range-stable x n) (agree-stable x (variable_name g n))) skip
+            (λ Vb Wb k2 f2 d. go Vb Wb k2 (λ e2 q2. f2) (ready-of asked.index index_n actual_n number-actual Vb Wb (subst (λ j. AgreeDues x (dues_of asked.index ++ ads) j Vb Wb) (sym i) d)))
             _ _ k (in-range x n V v (cells n (first-there mv refl e m).0) fits, a))
 
     -- ---- plain calls
@@ -368,9 +368,9 @@ module _ (x : Ground) (made : AreMade x.programs) (s : Span) (c : PCall) (asked 
         joined x (call_before g s c n) (in_front (chosen g s c.task n (λ w. one (SCall (call_to g s c n w) s))) (call_behind g s c n)) K V W
         (before-pass (Passes x (in_front (chosen g s c.task n (λ w. one (SCall (call_to g s c n w) s))) (call_behind g s c n)) K)
         (λ U u. joined x (chosen g s c.task n (λ w. one (SCall (call_to g s c n w) s))) (call_behind g s c n) K U U (chosen-skip x s c.task asked.callee n (λ w. one (SCall (call_to g s c n w) s)) (Passes x (call_behind g s c n) K) behind-skips call-skips U u))
-        (λ V1 W1 k ready r. joined x (chosen g s c.task n (λ w. one (SCall (call_to g s c n w) s))) (call_behind g s c n) K V1 W1
-        (chosen-pass x s c.task asked.callee n (λ w. one (SCall (call_to g s c n w) s)) (Passes x (call_behind g s c n) K) behind-skips call-skips bound V1 W1 k ready
-        (λ w m. ((λ cells. word-passes w (entered w m) room (Passes x (call_behind g s c n) K) behind-skips V1 W1 k (same-call w (entered w m) room V1 W1 r) (λ A B q a. call-behind K all A B q a)), behind-skips))))
+        (λ Va Wa k ready r. joined x (chosen g s c.task n (λ w. one (SCall (call_to g s c n w) s))) (call_behind g s c n) K Va Wa
+        (chosen-pass x s c.task asked.callee n (λ w. one (SCall (call_to g s c n w) s)) (Passes x (call_behind g s c n) K) behind-skips call-skips bound Va Wa k ready
+        (λ w m. ((λ cells. word-passes w (entered w m) room (Passes x (call_behind g s c n) K) behind-skips Va Wa k (same-call w (entered w m) room Va Wa r) (λ A B q a. call-behind K all A B q a)), behind-skips))))
         V W near)
       where
         behind-skips : Skipped x (Passes x (call_behind g s c n) K)

@@ -3,9 +3,8 @@ use Rattle.std.proofs.lemmas.List.{length-map}
 use Rattle.std.specs.List.{list_any}
 use Rattle.std.specs.Str.{bytes_eq}
 use Rattle.ada_tree.specs.NameList.{AreNames, interned}
-use Rattle.ada_tree.proofs.Interning.{found_text, list_any-map, interned-there, interned-new, map-insert_key, AreNames-added}
+use Rattle.ada_tree.proofs.Interning.{found_text, list_any-map, interned-there, interned-new, map-insert_key, AreNames-added, seam}
 use Rattle.ada_tree.proofs.naming.Names.intern.Goals as goal
-use Rattle.common_lemmas.proofs.Lists.{last_at}
 
 pub returns-in-Some-clause-named : goal.returns-in-Some-clause-named
 returns-in-Some-clause-named c = rw (← c.self.view_is) (found_text string_bytes _ c.self.inside.texts.keys _ (sym c.in-Some.ensures.index))
@@ -36,7 +35,7 @@ invariant_of-self-2 c = named c
 pub returns-clause-named : goal.returns-clause-named
 returns-clause-named c =
     let place : c.len-place.result ≡ length (map string_bytes c.self.inside.texts.keys) = c.len-place.ensures.len ∙ sym (length-map c.self.inside.texts.keys string_bytes) in
-    rw (added c, place) (last_at (map string_bytes c.self.inside.texts.keys) _)
+    rw (added c, place) (seam (map string_bytes c.self.inside.texts.keys) [] _)
 
 pub returns-clause-texts : goal.returns-clause-texts
 returns-clause-texts c = rw (← c.self.view_is) (inserted c)
