@@ -64,7 +64,8 @@ module _ {A : Type 0} (Below : A → A → Type 0) (one_way : (x y : A) → Belo
 events_ordered : IsTotalOrder event_cmp
 events_ordered = then_total (on_total letter_of nat_cmp_total) (on_total numbers_in (lists_total int_cmp_total))
 
-one_before : (e f : Event) → event_cmp e f ≡ Less → event_cmp f e ≡ Less → ⊥
+-- no two events stand each before the other
+pub one_before : (e f : Event) → event_cmp e f ≡ Less → event_cmp f e ≡ Less → ⊥
 one_before e f h k =
     let both : ◌≡◌ {A = Ordering} Less Greater = sym h ∙ events_ordered.antisymm e f ∙ ap ordering_reverse k in cc
 

@@ -101,7 +101,7 @@ skipped_or_not (Some f) e = ⊎_elim
 
 -- ---- what is seen of the tasks
 
-below_ten : (e : Event) → letter_of e < 10
+pub below_ten : (e : Event) → letter_of e < 10
 below_ten (event.R c e i) = omega arith
 below_ten (event.E a) = omega arith
 below_ten (event.S a) = omega arith
@@ -293,6 +293,11 @@ module _ (setup : ProgramWithInputs) (numbers : Numbering) (bound : ℕ) (events
   open_to (suc n) = open_next n (open_to n)
 
   -- ---- what can come next
+
+  -- What is seen of the tasks tells what can come next.
+  pub by_views : (seen : ℕ → View) × ((e : Event) → VerdictIs setup numbers bound (events ++ e ∷ []) Feasible ↔ (all_hold numbers seen e ≡ true))
+  unfolding views
+  by_views = (views, next_exactly setup numbers bound events well more views (λ t. (viewed t).seen))
 
   module _ (skip : Option Event) where
     abbrev Reached : ℕ → ℕ → Type 0

@@ -15,3 +15,4 @@ pub mod Going
 pub mod Knowing
 pub mod Continued
 pub mod Existing
+pub mod Few

@@ -1,5 +1,5 @@
 -- The laws of variants and of going on (this project's rules).
-use Rattle.std.specs.Prelude.{◌≡◌, ◌≤◌, ℕ, true, List, [], ◌++◌, length}
+use Rattle.std.specs.Prelude.{◌≡◌, ◌≤◌, ◌<◌, ◌^◌, ℕ, true, List, [], ◌++◌, length, Option}
 use Rattle.event_machine.specs.declared.Event.{Event}
 use Rattle.seq_file.specs.Files.{AreFit, most_events}
 use Rattle.seq_file.specs.Known.{is_known}
@@ -7,7 +7,7 @@ use Rattle.syn_event.specs.Numbering.{Numbering}
 use Rattle.task_model.specs.Machine.{ProgramWithInputs}
 use Rattle.task_machine.specs.declared.verdict.Verdict.TheVariants.{Feasible}
 use Rattle.task_machine.specs.Judging.{VerdictIs}
-use Rattle.race_variant.specs.Variants.{CanFollow}
+use Rattle.race_variant.specs.Variants.{AreVariants, CanFollow}
 use Rattle.race_variant.specs.Continuing.{EndsSo, AreChosen, IsContinued}
 use Rattle.race_variant.specs.KnownOffers.{OffersAreKnown}
 use Rattle.race_variant.specs.declared.continuing.GoEnd.{GoEnd}
@@ -18,6 +18,12 @@ abbrev pub VariantsAreKnown : Type 0
 VariantsAreKnown =
     (setup : ProgramWithInputs) (numbers : Numbering) → OffersAreKnown setup numbers →
     (bound : ℕ) (events : List Event) (e : Event) → CanFollow setup numbers bound events e → is_known numbers e ≡ true
+
+-- Where the offers of a program with fewer than 2^20 tasks are known, fewer than 2^32 events can come next.
+abbrev pub VariantsAreFew : Type 0
+VariantsAreFew =
+    (setup : ProgramWithInputs) (numbers : Numbering) → OffersAreKnown setup numbers → length numbers.tasks < 2 ^ 20 →
+    (bound : ℕ) (events : List Event) (skip : Option Event) (found : List Event) (unsettled : List ℕ) → AreVariants setup numbers bound events skip found unsettled → length found < 2 ^ 32
 
 module _ {C : Type 0} (word : C → ℕ) (next : C → C) where
   -- The same choices choose the same events and come to the same end.

@@ -152,7 +152,7 @@ fn choose<C: Chooser>(
     Ok(())
 }
 
-// The event at the place that the next choice names.
+// The event at the place that the next choice names. A legal original has never 2^32 that can come next (`progress_law: offers`, clause `few`).
 fn pick<C: Chooser>(found: &[Event], choices: &mut C) -> Result<Event, Memory>
     requires { 0 < length found.now }
     ensures event { IfOk result (λ e. slice_get found.now (C.word choices.old % length found.now) ≡ Some e) }

@@ -1,5 +1,5 @@
 -- Whatever has happened, what the tasks of a legal original offer is known.
-use Rattle.std.proofs.Common.{◌≡◌, ◌<◌, ◌≤◌, ℕ, ℤ, true, List, length, slice_index_or, refl, sym, ap, ◌∙◌, subst, true≢false, ⊎_elim}
+use Rattle.std.proofs.Common.{◌≡◌, ◌<◌, ◌≤◌, ℕ, ℤ, true, List, length, slice_index_or, refl, sym, ap, ◌∙◌, subst, true≢false, ⊎_elim, arith}
 use Rattle.std.proofs.lemmas.Bool.{cases_lt}
 use Rattle.common_lemmas.proofs.Numbers.{lt_true}
 use Rattle.ada_tree.specs.PlainProgram.{PProgram}
@@ -17,6 +17,7 @@ use Rattle.event_machine.proofs.Erasing.{erasing}
 use Rattle.event_machine.proofs.Joining.{joined}
 use Rattle.event_machine.proofs.ListLaws.{sound_list, led_list, opening_numbers}
 use Rattle.event_machine.proofs.Reaching.{IsLed, start_base}
+use Rattle.syn_event.specs.declared.numbering.Mode.TheVariants.{Original}
 use Rattle.syn_event.specs.Numbering.{owner_of}
 use Rattle.task_model.specs.Laws.{program_in, first_world}
 use Rattle.task_model.specs.Machine.{ProgramWithInputs, Tasks, rules_of, setting_of, opening_of}
@@ -26,6 +27,7 @@ use Rattle.task_model.specs.Starting.{nobody}
 use Rattle.task_model.specs.TaskOps.{task_ops}
 use Rattle.task_model.specs.Tasks.{Task}
 use Rattle.task_model.proofs.Following.{opens}
+use Rattle.task_laws.proofs.actions.Numbers.{few_numbered}
 use Rattle.task_laws.proofs.invariants.Beginning.{first, length_first, first_is}
 use Rattle.task_laws.proofs.statements.Carried.{starts-so}
 use Rattle.normal_laws.specs.runs.forms.Normalisable.{numbers_of}
@@ -33,7 +35,8 @@ use Rattle.normal_laws.specs.existence.Laws.{IsLegalOriginal}
 use Rattle.replay_runs.proofs.controls.meanings.Numbered.{has_stepped, has_accepted, has_finished, has_resumed, has_took_else, has_took_delay, has_passed}
 use Rattle.replay_runs.proofs.controls.meanings.Reading.{AllKeep, all_keep}
 use Rattle.race_variant.specs.KnownOffers.{is_known_offer}
-use Rattle.progress_law.specs.offers.Laws.{LegalOffersAreKnown}
+use Rattle.race_variant.proofs.Few.{variants_are_few}
+use Rattle.progress_law.specs.offers.Laws.{LegalOffersAreKnown, LegalVariantsAreFew}
 use Rattle.progress_law.specs.offers.inner.Stated.{IsKnownAt, HasFewDelays}
 use Rattle.progress_law.proofs.offers.Keeping.{Known, known-offer, known-lawful}
 use Rattle.progress_law.proofs.offers.Stated.{unit-known, unit-few}
@@ -151,3 +154,9 @@ module _ (p : PProgram) (h : IsLegalOriginal p) (inputs : List (List ℤ)) where
 pub legal_offers_are_known : LegalOffersAreKnown
 legal_offers_are_known p h inputs events t offer (n, task, rest, steps, same) =
     let (tasks, tally, run, is_live, counted) = rest in offers-known p h inputs (before_end events) tasks tally run t task is_live offer same
+
+-- Fewer than 2^32 events can come next.
+pub legal_variants_are_few : LegalVariantsAreFew
+legal_variants_are_few p h inputs bound events skip found unsettled a =
+    let few : length (numbers_of p).tasks ≤ 203 = few_numbered p (types_in p) (numbers_of p) Original h.legal in
+    variants_are_few (record { program = p; types = types_in p; inputs = inputs }) (numbers_of p) (legal_offers_are_known p h inputs) (omega (arith, few)) bound events skip found unsettled a

@@ -1,5 +1,5 @@
 -- The laws that a legal original offers what it knows, and so does it (this project's rules).
-use Rattle.std.specs.Prelude.{◌≡◌, ℤ, true, All, List}
+use Rattle.std.specs.Prelude.{◌≡◌, ◌<◌, ◌^◌, ℕ, ℤ, true, All, List, length, Option}
 use Rattle.event_machine.specs.declared.Event.{Event}
 use Rattle.ada_tree.specs.PlainProgram.{PProgram}
 use Rattle.ada_static_rules.specs.Refusals.{types_in}
@@ -8,6 +8,7 @@ use Rattle.normal_laws.specs.existence.Laws.{IsLegalOriginal}
 use Rattle.seq_file.specs.Known.{is_known}
 use Rattle.task_machine.specs.Views.{IsFeasible}
 use Rattle.race_variant.specs.KnownOffers.{OffersAreKnown}
+use Rattle.race_variant.specs.Variants.{AreVariants}
 
 -- Whatever has happened, and whatever the inputs: each task of a legal original offers calls of members that there are, delays by numbers of alternatives,
 -- and aborts of tasks beside main; and main accepts nothing.
@@ -20,3 +21,9 @@ abbrev pub LegalSequencesAreKnown : Type 0
 LegalSequencesAreKnown =
     (p : PProgram) → IsLegalOriginal p → (inputs : List (List ℤ)) (events : List Event) → IsFeasible (record { program = p; types = types_in p; inputs = inputs }) (numbers_of p) events →
     All (λ event. is_known (numbers_of p) event ≡ true) events
+
+-- And fewer than 2^32 events can come next, whatever has happened.
+abbrev pub LegalVariantsAreFew : Type 0
+LegalVariantsAreFew =
+    (p : PProgram) → IsLegalOriginal p → (inputs : List (List ℤ)) (bound : ℕ) (events : List Event) (skip : Option Event) (found : List Event) (unsettled : List ℕ) →
+    AreVariants (record { program = p; types = types_in p; inputs = inputs }) (numbers_of p) bound events skip found unsettled → length found < 2 ^ 32
