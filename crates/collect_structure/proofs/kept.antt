@@ -1,4 +1,1 @@
 pub mod Names
-pub mod Main
-pub mod Subtypes
-pub mod Declared

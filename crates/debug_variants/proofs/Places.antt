@@ -31,13 +31,10 @@ use Rattle.debug_outcome.specs.declared.stopping.Stop.{Stop}
 use Rattle.debug_outcome.specs.declared.stopping.Stop.TheVariants.{Refused, OutputFailed, Memory}
 use Rattle.debug_variants.specs.VariantsOutcomes.{Place, place_count, IsPlaceBehind, ArePlaces, place_text, places_text, variants_text, IsVariantsText}
 use Rattle.debug_variants.specs.inner.Placing.{HasPlace, PlaceComes, AreFirst, AreToldTo}
+use Rattle.common_lemmas.proofs.Truth.{or_true}
+use Rattle.race_variant.proofs.Telling.{get_old as within_front}
 
 -- ---- lists
-
-within_front : {A : Type 0} (xs : List A) (x : A) (k : ℕ) → k < length xs → slice_get (xs ++ x ∷ []) k ≡ slice_get xs k
-within_front [] x k less = absurd (omega arith)
-within_front (y ∷ xs) x zero less = refl
-within_front (y ∷ xs) x (suc k) less = within_front xs x k (omega arith)
 
 -- a front of what was put is one of more
 began_more : (old new : Option (List ℕ)) (a b : List ℕ) → Began old new a → Began old new (a ++ b)
@@ -66,10 +63,6 @@ ends_last (e ∷ events) h ended = ⊎_elim
     let k = ends_last events h.1 (sym (ap (λ b. b || has_ended events) goes) ∙ ended) in
     (e ∷ k.0, ap (λ xs. e ∷ xs) k.1))
     (cases_Bool (is_end e))
-
-or_true : (b : Bool) → (b || true) ≡ true
-or_true true = refl
-or_true false = refl
 
 -- and where it is the last, it is among them
 last_ends : (front : List Event) → has_ended (front ++ Z ∷ []) ≡ true

@@ -11,7 +11,7 @@ use Rattle.syn_event.specs.Numbering.{Numbering}
 use Rattle.task_model.specs.Machine.{ProgramWithInputs}
 use Rattle.race_variant.specs.Variants.{letter_of, numbers_in, event_cmp, AreVariants}
 
-none_in : {A : Type 0} (x : A) → Contains [] x → ⊥
+pub none_in : {A : Type 0} (x : A) → Contains [] x → ⊥
 none_in x k = let less : k.0 < 0 = k.1 in omega arith
 
 first_in : {A : Type 0} (x : A) (xs : List A) → Contains (x ∷ xs) x

@@ -19,10 +19,7 @@ use Rattle.feasible.specs.Shown.{Shows}
 use Rattle.race_variant.specs.inner.Ending.{can_end_view}
 use Rattle.race_variant.specs.inner.Passing.{seen_by, seen_at}
 use Rattle.race_variant.proofs.Telling.{get_not}
-
-no_more : (a : Bool) → (a && false) ≡ false
-no_more true = refl
-no_more false = refl
+use Rattle.common_lemmas.proofs.Truth.{and_false as no_more}
 
 module _ (views : ℕ → View) where
   -- the first n of them can end

@@ -23,9 +23,7 @@ use Rattle.race_variant.specs.GoingLaws.{VariantsAreKnown}
 use Rattle.race_variant.specs.KnownOffers.{is_known_choice, is_known_offer, OffersAreKnown}
 use Rattle.race_variant.specs.inner.Passing.{offer_seen}
 use Rattle.race_variant.proofs.Offers.{holds_R, holds_E, holds_S, holds_D, holds_C, holds_T, holds_F, holds_X, holds_B}
-
-first_part : (a b : Bool) → (a && b) ≡ true → a ≡ true
-first_part a b h = (and_parts a b h).0
+use Rattle.common_lemmas.proofs.Truth.{and_left as first_part}
 
 module _ (numbers : Numbering) (t : ℕ) where
   -- ---- offers that pass a test

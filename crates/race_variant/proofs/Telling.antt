@@ -15,17 +15,14 @@ use Rattle.feasible.specs.Keeping.{IsSettled}
 use Rattle.feasible.specs.Kept.{Kept}
 use Rattle.race_variant.specs.inner.Passing.{AreAnswers, AreTold}
 use Rattle.race_variant.proofs.Gathering.{contains_at}
+use Rattle.common_lemmas.proofs.Lists.{last_at as get_new}
 
 -- ---- lists with one more
 
-get_old : {A : Type 0} (xs : List A) (x : A) (t : ℕ) → t < length xs → slice_get (xs ++ x ∷ []) t ≡ slice_get xs t
+pub get_old : {A : Type 0} (xs : List A) (x : A) (t : ℕ) → t < length xs → slice_get (xs ++ x ∷ []) t ≡ slice_get xs t
 get_old [] x t less = absurd (omega arith)
 get_old (y ∷ xs) x zero less = refl
 get_old (y ∷ xs) x (suc t) less = get_old xs x t (omega arith)
-
-get_new : {A : Type 0} (xs : List A) (x : A) → slice_get (xs ++ x ∷ []) (length xs) ≡ Some x
-get_new [] x = refl
-get_new (y ∷ xs) x = get_new xs x
 
 longer : {A : Type 0} (xs : List A) (x : A) → length (xs ++ x ∷ []) ≡ length xs + 1
 longer xs x = length-append xs (x ∷ [])

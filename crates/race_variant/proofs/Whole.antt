@@ -2,12 +2,10 @@
 use Rattle.std.proofs.Common.{◌≡◌, ◌↔◌, ℕ, ◌<◌, ◌≤◌, Bool, true, false, List, [], ◌∷◌, ◌++◌, length, take, refl, sym, ap, ◌∙◌, subst, arith, true≢false, ⊎_elim, inl, inr, Option, Some, None, Result}
 use Rattle.std.specs.Prelude.{slice_get, OnOk}
 use Rattle.ada_tree.specs.declared.shortage.Memory.{Memory}
-use Rattle.std.specs.List.{Contains}
 use Rattle.std.proofs.lemmas.Bool.{cases_lt}
 use Rattle.std.proofs.lemmas.List.{get_or_past}
 use Rattle.std.proofs.lemmas.Option.{slice_get_within}
 use Rattle.event_machine.specs.declared.Event.{Event}
-use Rattle.event_machine.specs.declared.Event.TheVariants.{R, E, S, D, C, T, F, X, B, Z}
 use Rattle.event_machine.specs.declared.Standing.TheVariants.{Live, Completed as Over}
 use Rattle.event_machine.specs.States.{Seat, completed, is_live}
 use Rattle.event_machine.specs.Tallies.{HasNoEnd}
@@ -26,25 +24,12 @@ use Rattle.feasible.specs.Keeping.{StandsFor, is_feasible}
 use Rattle.feasible.specs.Kept.{Kept}
 use Rattle.feasible.proofs.Resting.{all_feasible, all_taken, view_settled, settled_shut, stands_here, no_end, an_end}
 use Rattle.common_lemmas.proofs.Results.{on_ok}
-use Rattle.race_variant.specs.Variants.{letter_of, AreVariants, CanFollow, HoldsUp}
+use Rattle.race_variant.specs.Variants.{AreVariants, CanFollow, HoldsUp}
 use Rattle.race_variant.specs.inner.Passing.{AreAnswers, AreTold, seen_by, seen_at, AreFound}
 use Rattle.race_variant.proofs.Telling.{get_none, get_not}
 use Rattle.race_variant.proofs.Next.{IsSeen, next_exactly, open_holds, holds_open}
-
-below_ten : (e : Event) → letter_of e < 10
-below_ten (R c e i) = omega arith
-below_ten (E a) = omega arith
-below_ten (S a) = omega arith
-below_ten (D a k) = omega arith
-below_ten (C c e i) = omega arith
-below_ten (T c e i) = omega arith
-below_ten (F c e i) = omega arith
-below_ten (X a) = omega arith
-below_ten (B t x) = omega arith
-below_ten Z = omega arith
-
-none_in : {A : Type 0} (x : A) → Contains [] x → ⊥
-none_in x k = let less : k.0 < 0 = k.1 in omega arith
+use Rattle.race_variant.proofs.Ascents.{none_in}
+use Rattle.race_variant.proofs.Existing.{below_ten}
 
 module _ (setup : ProgramWithInputs) (events : List Event) (j : Kept) (s : StandsFor setup events j) (well : is_feasible j.verdict ≡ true) (skip : Option Event) where
   -- After the end of the program there are none.

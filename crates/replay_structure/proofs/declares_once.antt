@@ -8,5 +8,6 @@ pub mod Added
 pub mod Whole
 pub mod Named
 pub mod Texts
+pub mod GoodNamed
 pub mod Legal
 pub mod Examples

@@ -1,3 +1,4 @@
+pub mod Keeping
 pub mod Kept
 pub mod Subtypes
 pub mod Declared

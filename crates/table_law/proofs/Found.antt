@@ -15,7 +15,7 @@ use Rattle.table_law.specs.Controllers.{AreApart}
 pub first-named : (o : Object) (vars : Variables) → object_named (o ∷ vars) o.name ≡ Some o
 first-named o vars = ap (λ (b : Bool). cond b (Some o) (object_named vars o.name)) (equal_self o.name.0)
 
-later-named : (o : Object) (vars : Variables) (id : NameId) → (o.name.0 == id.0) ≡ false → object_named (o ∷ vars) id ≡ object_named vars id
+pub later-named : (o : Object) (vars : Variables) (id : NameId) → (o.name.0 == id.0) ≡ false → object_named (o ∷ vars) id ≡ object_named vars id
 later-named o vars id e = ap (λ (b : Bool). cond b (Some o) (object_named vars id)) e
 
 -- a variable is found by its name

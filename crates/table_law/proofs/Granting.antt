@@ -27,10 +27,11 @@ use Rattle.replay_model.specs.tables.Turns.{line_of, part_given, given, going, h
 use Rattle.table_law.specs.Controllers.{Controller, Entries, IsController, CanMakeAll}
 use Rattle.table_law.specs.States.{standing, turn_variables, behind_loop, turn_frame, turning, before, permit_object, go_parameters, permit_variables, granting, heard, LeadsTo}
 use Rattle.table_law.proofs.Found.{found, set}
-use Rattle.table_law.proofs.Numbers.{small, number-fits}
+use Rattle.table_law.proofs.Numbers.{number-fits}
 use Rattle.table_law.proofs.Lines.{line-in-turn, line-in-body}
 use Rattle.table_law.proofs.Turning.{step, at-seam}
 use Rattle.table_law.proofs.Accepting.{index-is, member-found}
+use Rattle.ada_value.proofs.StaticLaws.{natural_integer as small}
 
 module _ (k : Controller) (e : Entries) (h : IsController k e) (hold : Bool) (made left : List Op) where
   -- ---- hearing

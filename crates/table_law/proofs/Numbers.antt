@@ -1,8 +1,7 @@
 -- Numbers of INTEGER, as values and as literals.
-use Rattle.std.proofs.Common.{◌≡◌, ℕ, suc, ◌≤◌, ◌==◌, Bool, true, false, Option, unwrap_or, if◌then◌else◌, refl, sym, ap, ◌∙◌, arith, eqb-true}
+use Rattle.std.proofs.Common.{◌≡◌, ℕ, suc, ◌==◌, Bool, true, false, Option, unwrap_or, if◌then◌else◌, refl, sym, ap, ◌∙◌, arith, eqb-true}
 use Rattle.std.specs.Prelude.{ℤ, pos, negsuc, neg_ℤ, Ok, Err}
 use Rattle.std.proofs.lemmas.Int.{ints}
-use Rattle.std.proofs.lemmas.Bool.{le-leb}
 use Rattle.std.proofs.lemmas.Bool.Decides.{nat_tests}
 use Rattle.ada_tree.specs.declared.naming.Span.{Span}
 use Rattle.ada_tree.specs.declared.expressions.UnaryOp.TheVariants as unary
@@ -20,9 +19,6 @@ use Rattle.ada_value.specs.Evaluating.{evaluated, bound_value}
 use Rattle.normal_model.specs.Members.{integer_literal}
 use Rattle.normal_model.specs.Ranges.{word_at}
 use Rattle.table_law.specs.Controllers.{Controller, Entries, IsController}
-
-pub small : (n : ℕ) → n ≤ 2147483647 → is_integer_value (pos n) ≡ true
-small n h = le-leb n 2147483647 h
 
 pub fitted-ok : (z : ℤ) → is_integer_value z ≡ true → fitted z ≡ Ok (Number z)
 fitted-ok z h = ap (λ (b : Bool). if b then Ok (Number z) else Err raised.Numeric) h

@@ -35,8 +35,9 @@ use Rattle.replay_model.specs.tables.Turns.{turn}
 use Rattle.replay_model.specs.tables.ControlBodies.{loops, waits}
 use Rattle.table_law.specs.Controllers.{Controller, Entries, IsController, CanMake, CanMakeAll}
 use Rattle.table_law.specs.States.{standing, table_object, tables, behind_loop, loop_around, turning, before, Comes}
-use Rattle.table_law.proofs.Numbers.{small, fitted-ok, number-at, literal-is}
+use Rattle.table_law.proofs.Numbers.{fitted-ok, number-at, literal-is}
 use Rattle.table_law.proofs.Turning.{step-first, from-head}
+use Rattle.ada_value.proofs.StaticLaws.{natural_integer as small}
 
 module _ (k : Controller) (e : Entries) (h : IsController k e) where
   -- ---- the values of a table

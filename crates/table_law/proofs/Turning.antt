@@ -28,8 +28,9 @@ use Rattle.replay_model.specs.tables.Turns.{going, hearing, joined, join_arms, j
 use Rattle.replay_model.specs.tables.ControlBodies.{waits}
 use Rattle.table_law.specs.Controllers.{Controller, Entries, name_at, IsController, CanMake, CanMakeAll}
 use Rattle.table_law.specs.States.{standing, tables, objects, loop_around, behind_loop, turn_variables, turning, calling, behind, before, LeadsTo, Comes}
-use Rattle.table_law.proofs.Numbers.{small, fitted-ok, number-at}
+use Rattle.table_law.proofs.Numbers.{fitted-ok, number-at}
 use Rattle.table_law.proofs.Lines.{line-in-turn}
+use Rattle.ada_value.proofs.StaticLaws.{natural_integer as small}
 
 -- ---- ways
 
@@ -71,19 +72,19 @@ abbrev chosen : PCaseArms → PMaybe → Task → Result Value Raised → Task
 chosen arms others t r = or_raised (λ (branch : PMaybe). entered (stmts_or_none branch) no_stmt t) t (and_then r (λ v. case_taken t v arms others))
 
 -- a number is a literal
-abbrev decided : ℕ → ℕ → Result Bool Raised
+abbrev pub decided : ℕ → ℕ → Result Bool Raised
 decided m n = if int_le (pos m) (pos n) && int_le (pos n) (pos m) then Ok true else Ok false
 
-literal-fits : (t : Task) (s : Span) (m n : ℕ) → m ≤ 2147483647 → choices_fit t (Number (pos n)) (record { first = EInteger m s; last = None } ∷ []) ≡ decided m n
+pub literal-fits : (t : Task) (s : Span) (m n : ℕ) → m ≤ 2147483647 → choices_fit t (Number (pos n)) (record { first = EInteger m s; last = None } ∷ []) ≡ decided m n
 literal-fits t s m n l =
     ap (λ (r : Result Value Raised). and_then (and_then r (λ a. and_then (choice_end t None a) (λ b. Ok (lies_between a b (Number (pos n)))))) (λ (b : Bool). if b then Ok true else Ok false))
     (fitted-ok (pos m) (small m l))
 
-decided-same : (m n : ℕ) → m ≤ n → n ≤ m → decided m n ≡ Ok true
+pub decided-same : (m n : ℕ) → m ≤ n → n ≤ m → decided m n ≡ Ok true
 decided-same m n below above =
     ap (λ (b : Bool). if b && int_le (pos n) (pos m) then Ok true else Ok false) (le-leb m n below) ∙ ap (λ (b : Bool). if b then Ok true else Ok false) (le-leb n m above)
 
-decided-other : (m n : ℕ) → m < n → decided m n ≡ Ok false
+pub decided-other : (m n : ℕ) → m < n → decided m n ≡ Ok false
 decided-other m n below =
     ap (λ (b : Bool). if b && int_le (pos n) (pos m) then Ok true else Ok false) (le-leb m n (omega (arith, below)))
     ∙ ap (λ (b : Bool). if b then Ok true else Ok false) (le_false n m below)

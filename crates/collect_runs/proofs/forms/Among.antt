@@ -20,13 +20,9 @@ use Rattle.collect_model.specs.Recording.{recorder_declared}
 use Rattle.collect_model.specs.CollectTree.{behind_own}
 use Rattle.collect_structure.proofs.texts.Listed.{all-behind}
 use Rattle.collect_structure.proofs.texts.Telling.{IsTelling, told_with}
+use Rattle.replay_structure.proofs.bodies.Bodies.{plain-no-body}
 
 -- ---- what is passed over
-
-plain-no-body : (d : PDecl) → IsPlain d → IsNoBody d
-plain-no-body (DTask t sp) h = tt
-plain-no-body (DTaskBody w objects its sp) h = absurd h
-plain-no-body d h = tt
 
 tasks-no-body : (n : AddedNames) (f : PDecl → PDecl) → IsTelling n f → (ds : List PDecl) → AllByRecursion IsNoBody (map f (filter is_task ds))
 tasks-no-body n f tells [] = tt

@@ -53,8 +53,8 @@ use Rattle.replay_runs.proofs.controls.Offers.{as-many-numbers}
 use Rattle.replay_runs.proofs.controls.indices.Joined.{legal_variables_are_added, legal_indices_evaluate}
 use Rattle.collect_runs.specs.telling.Texts.{TellsMember}
 use Rattle.collect_runs.proofs.telling.Noting.{zero-told}
-use Rattle.collect_runs.proofs.forms.Starting.{all-passed}
-use Rattle.collect_runs.proofs.forms.Old.{programs_with}
+use Rattle.replay_runs.proofs.controls.translated.OldBodies.{programs_with}
+use Rattle.replay_runs.proofs.starts.Objects.{all-passed}
 
 -- ---- how it is told
 

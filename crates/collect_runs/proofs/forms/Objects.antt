@@ -36,7 +36,7 @@ use Rattle.normal_laws.proofs.existence.units.TypedNames.{stand-still}
 use Rattle.normal_laws.proofs.legality.checks.Facts as facts
 use Rattle.replay_runs.specs.starts.Laws.{form_in, start_before}
 use Rattle.replay_runs.proofs.controls.translated.Tables.{form-small}
-use Rattle.collect_runs.proofs.forms.Old.{programs_with}
+use Rattle.replay_runs.proofs.controls.translated.OldBodies.{programs_with}
 use Rattle.task_model.specs.Setting.{Setting}
 
 -- ---- more variables

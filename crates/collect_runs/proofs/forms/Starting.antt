@@ -1,5 +1,5 @@
 -- The tasks of a legal program's collecting text start beside those of its normal form.
-use Rattle.std.proofs.Common.{◌≡◌, ◌==◌, ◌≤◌, ℕ, ℤ, zero, suc, Bool, true, false, not, ◌||◌, if◌then◌else◌, cond, List, [], ◌∷◌, ◌++◌, map, is_some, slice_index_or, unwrap_or, Option, Some, None, inl, refl, sym, ap, ap₂, ◌∙◌, subst, true≢false, arith}
+use Rattle.std.proofs.Common.{◌≡◌, ◌==◌, ◌≤◌, ℕ, ℤ, zero, suc, Bool, true, false, not, ◌||◌, if◌then◌else◌, cond, List, [], ◌∷◌, ◌++◌, map, is_some, slice_index_or, Option, Some, None, inl, refl, sym, ap, ap₂, ◌∙◌, subst, true≢false, arith}
 use Rattle.std.specs.List.{AllByRecursion, filter, list_any}
 use Rattle.std.proofs.lemmas.Bool.{eqb-true, ne_eqb}
 use Rattle.common_lemmas.proofs.Lists.{all_back, all_front, all_weaker}
@@ -11,7 +11,7 @@ use Rattle.ada_tree.specs.declared.static_types.Mark.{Mark}
 use Rattle.ada_tree.specs.TypeTable.{TypeTable}
 use Rattle.ada_tree.specs.PlainExpr.{EInteger}
 use Rattle.ada_tree.specs.PlainStmt.{PBody}
-use Rattle.ada_tree.specs.PlainDecl.{IOne, OPlain, PDecl, DNumber, DObject, DEnumeration, DArray, DSubtype, DException, DIntIo, DPragma, DTask, DTaskBody, PDecls, no_decl, decl_then, decls_of}
+use Rattle.ada_tree.specs.PlainDecl.{IOne, OPlain, PDecl, DNumber, DObject, DEnumeration, DArray, DSubtype, DException, DIntIo, DPragma, DTask, DTaskBody, PDecls, decls_of}
 use Rattle.ada_tree.specs.PlainProgram.{PProgram}
 use Rattle.ada_tree.specs.Every.{Rules, EveryDecl}
 use Rattle.ada_static_rules.specs.Refusals.{types_in}
@@ -46,8 +46,8 @@ use Rattle.replay_model.specs.ReplayTree.{is_added_object, is_task, is_body, las
 use Rattle.replay_structure.proofs.bodies.Bodies.{unit-at}
 use Rattle.replay_runs.specs.starts.Laws.{own_part, added_part, objects_in, form_in, start_before}
 use Rattle.replay_runs.specs.starts.Formals.{form_setting}
-use Rattle.replay_runs.proofs.starts.Objects.{objects-behind}
-use Rattle.replay_runs.proofs.starts.Programs.{InBody, in-unit, all-added}
+use Rattle.replay_runs.proofs.starts.Objects.{objects-behind, all-passed}
+use Rattle.replay_runs.proofs.starts.Programs.{InBody, in-unit, all-added, beside-main as none-in-main}
 use Rattle.replay_runs.proofs.starts.Tables.{integer_is_there, IsOldDecl, objects-alike}
 use Rattle.replay_runs.proofs.controls.translated.Objects.{beside-main}
 use Rattle.collect_model.specs.declared.AddedNames.{AddedNames}
@@ -61,7 +61,8 @@ use Rattle.collect_runs.specs.telling.Texts.{teller}
 use Rattle.collect_runs.specs.starts.Texts.{text_for, text_setting, names_added, texts_of}
 use Rattle.collect_runs.proofs.translation.Carried.{collect_starts}
 use Rattle.collect_runs.proofs.forms.Tables.{kept_for, agrees, names_are_added, types_agree, values}
-use Rattle.collect_runs.proofs.forms.Old.{only-old, names-kept}
+use Rattle.replay_runs.proofs.controls.translated.OldBodies.{only-old}
+use Rattle.collect_runs.proofs.forms.Old.{names-kept}
 use Rattle.collect_runs.proofs.forms.Objects.{extends-over, extends-same, named, start-plain}
 use Rattle.collect_runs.proofs.forms.Bodies.{told_unit}
 use Rattle.collect_runs.proofs.forms.Units.{legal_runs_told}
@@ -173,29 +174,6 @@ bodies-listed r (DSubtype w y s ∷ ds) h = (tt, bodies-listed r ds h.1)
 bodies-listed r (DException ws s ∷ ds) h = (tt, bodies-listed r ds h.1)
 bodies-listed r (DIntIo w s ∷ ds) h = (tt, bodies-listed r ds h.1)
 bodies-listed r (DPragma e s ∷ ds) h = (tt, bodies-listed r ds h.1)
-
--- the unit of a body is never main's
-pub none-in-main : (ds : PDecls) (name : NameId) → (unit_among ds name).in_main ≡ false
-none-in-main no_decl name = refl
-none-in-main (decl_then (DTaskBody w objects its s) ds) name = by_test (w.name.0 == name.0) (none-in-main ds name)
-  where
-    by_test : (c : Bool) → (unit_among ds name).in_main ≡ false → (unwrap_or (if c then Some record { in_main = false; decls = objects; body = its } else None) (unit_among ds name)).in_main ≡ false
-    by_test true e = refl
-    by_test false e = e
-none-in-main (decl_then (DTask t s) ds) name = none-in-main ds name
-none-in-main (decl_then (DNumber w e s) ds) name = none-in-main ds name
-none-in-main (decl_then (DObject ws k y i s) ds) name = none-in-main ds name
-none-in-main (decl_then (DEnumeration w ws s) ds) name = none-in-main ds name
-none-in-main (decl_then (DArray w i y s) ds) name = none-in-main ds name
-none-in-main (decl_then (DSubtype w y s) ds) name = none-in-main ds name
-none-in-main (decl_then (DException ws s) ds) name = none-in-main ds name
-none-in-main (decl_then (DIntIo w s) ds) name = none-in-main ds name
-none-in-main (decl_then (DPragma e s) ds) name = none-in-main ds name
-
--- objects of other names are passed over
-pub all-passed : (X V : Variables) (id : NameId) → AllByRecursion (λ (o : Object). (o.name.0 == id.0) ≡ false) X → object_named (X ++ V) id ≡ object_named V id
-all-passed [] V id h = refl
-all-passed (o ∷ X) V id h = ap (λ (b : Bool). cond b (Some o) (object_named (X ++ V) id)) h.0 ∙ all-passed X V id h.1
 
 module _ (p : PProgram) (h : IsLegalOriginal p) where
   abbrev q : PProgram

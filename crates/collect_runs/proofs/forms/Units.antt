@@ -1,6 +1,6 @@
 -- Each task beside main of a legal program's collecting text runs what becomes of the body that it runs in the normal form.
-use Rattle.std.proofs.Common.{◌≡◌, ℕ, suc, ◌==◌, ◌||◌, ◌+◌, not, nat_lt, cond, length, if◌then◌else◌, Bool, true, false, List, [], ◌∷◌, ◌++◌, map, slice_get, unwrap_or, option_map, Option, Some, None, refl, sym, ap, subst, ◌∙◌}
-use Rattle.std.specs.List.{AllByRecursion, list_any, position, prefix_len}
+use Rattle.std.proofs.Common.{◌≡◌, ℕ, suc, ◌==◌, ◌+◌, not, cond, if◌then◌else◌, Bool, true, false, List, [], ◌∷◌, ◌++◌, map, slice_get, unwrap_or, option_map, Option, Some, None, refl, sym, ap, subst, ◌∙◌}
+use Rattle.std.specs.List.{AllByRecursion, list_any, prefix_len}
 use Rattle.std.proofs.lemmas.Option.{none-some, slice_get-map}
 use Rattle.common_lemmas.proofs.Lists.{all_front, all_back}
 use Rattle.common_lemmas.proofs.Options.{some_same}
@@ -37,20 +37,8 @@ use Rattle.collect_model.specs.CollectTree.{recorder_body_told}
 use Rattle.collect_runs.specs.starts.Texts.{text_for, text_setting}
 use Rattle.collect_runs.proofs.forms.Bodies.{told_unit, found, bodies-alone}
 use Rattle.collect_runs.proofs.forms.Formals.{task-stays}
-
--- a body of a name stands among declarations where the name is among those of their bodies
-pub body-there : (ds : PDecls) (id : NameId) → has_body (decl_list ds) id ≡ list_any (λ n. n == id.0) (check.body_names ds)
-body-there no_decl id = refl
-body-there (decl_then (DTaskBody w objects its s) rest) id = ap (λ b. (w.name.0 == id.0) || b) (body-there rest id)
-body-there (decl_then (DTask t s) rest) id = body-there rest id
-body-there (decl_then (DNumber w e s) rest) id = body-there rest id
-body-there (decl_then (DObject ws c x i s) rest) id = body-there rest id
-body-there (decl_then (DEnumeration w ws s) rest) id = body-there rest id
-body-there (decl_then (DArray w q x s) rest) id = body-there rest id
-body-there (decl_then (DSubtype w x s) rest) id = body-there rest id
-body-there (decl_then (DException ws s) rest) id = body-there rest id
-body-there (decl_then (DIntIo w s) rest) id = body-there rest id
-body-there (decl_then (DPragma e s) rest) id = body-there rest id
+use Rattle.replay_runs.proofs.starts.Bodies.{body-there}
+use Rattle.normal_laws.proofs.structure.numbers.Origins.{place-alike as position-same}
 
 pub bodies-there : (ds : PDecls) (ts : List PTask) → AllByRecursion (λ (t : PTask). list_any (λ n. n == t.name.name.0) (check.body_names ds) ≡ true) ts → AllByRecursion (λ (t : PTask). has_body (decl_list ds) t.name.name ≡ true) ts
 bodies-there ds [] h = tt
@@ -60,9 +48,6 @@ bodies-there ds (t ∷ ts) h = (body-there ds t.name.name ∙ h.0, bodies-there 
 before-same : {A : Type 0} (f g : A → Bool) (xs : List A) → AllByRecursion (λ x. f x ≡ g x) xs → prefix_len (λ y. not (f y)) xs ≡ prefix_len (λ y. not (g y)) xs
 before-same f g [] h = refl
 before-same f g (x ∷ xs) h = λ i. cond (not (h.0 i)) (1 + before-same f g xs h.1 i) 0
-
-position-same : {A : Type 0} (f g : A → Bool) (xs : List A) → AllByRecursion (λ x. f x ≡ g x) xs → position f xs ≡ position g xs
-position-same f g xs h = ap (λ n. if nat_lt n (length xs) then Some n else None) (before-same f g xs h)
 
 module _ (p : PProgram) (h : IsLegalOriginal p) where
   abbrev q : PProgram

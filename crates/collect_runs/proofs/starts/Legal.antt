@@ -34,7 +34,7 @@ use Rattle.replay_runs.proofs.controls.Offers.{as-many-numbers}
 use Rattle.replay_runs.proofs.controls.replayed.Settings.{stepped-same, accepted-same, finished-same, resumed-same, failed-same, else-same, delay-same, passed-same}
 use Rattle.replay_runs.specs.controls.meanings.Settings.{form_setup, form_program, form_opening}
 use Rattle.replay_runs.proofs.controls.meanings.Naming.{owner-below}
-use Rattle.replay_runs.proofs.controls.meanings.Reading.{AllKeep, all_keep}
+use Rattle.table_law.proofs.runs.Keeping.{AllKeep, all_keep}
 use Rattle.collect_model.specs.CollectNumbers.{numbers_with}
 use Rattle.collect_runs.specs.recorder.Recorders.{IsRecorder}
 use Rattle.collect_runs.specs.telling.Texts.{Texts, program_of}

@@ -20,7 +20,7 @@ use Rattle.task_model.specs.Stands.{Stand, call_stand, choices_stand, wait_stand
 use Rattle.task_laws.specs.statements.Each.{Loops, InStmts, loops_of, HoldsOf}
 use Rattle.task_laws.proofs.invariants.Variables.{chain, ok_path}
 use Rattle.collect_runs.specs.starts.Laws.{IsNoAbort}
-use Rattle.collect_structure.proofs.placed.Made.{entry-few}
+use Rattle.replay_structure.proofs.placed.Made.{entry-few}
 
 -- ---- aborts
 

@@ -1,63 +1,18 @@
 -- Where rule Duplicate refuses nothing at the places of a program, it declares each name of main once.
-use Rattle.std.proofs.Common.{◌≡◌, ℕ, Bool, true, ◌&&◌, ◌||◌, ◌==◌, List, [], ◌∷◌}
-use Rattle.std.specs.List.{AllByRecursion, list_any}
-use Rattle.std.proofs.lemmas.Bool.{or_parts}
-use Rattle.common_lemmas.proofs.Lists.{all_back, all_front, all_weaker}
-use Rattle.ada_tree.specs.declared.naming.Word.{Word}
-use Rattle.ada_tree.specs.PlainDecl.{PDecl, DNumber, DObject, DEnumeration, DArray, DSubtype, DException, DIntIo, DPragma, DTask, DTaskBody, PDecls, no_decl, decl_then}
+use Rattle.std.proofs.Common.{List, [], ◌∷◌}
+use Rattle.std.specs.List.{AllByRecursion}
+use Rattle.common_lemmas.proofs.Lists.{all_front}
 use Rattle.ada_tree.specs.PlainProgram.{PProgram}
-use Rattle.ada_static_rules.specs.Scope.{Scope}
-use Rattle.ada_static_rules.specs.Demand.{Demand, declares, Site}
-use Rattle.ada_static_rules.specs.Sites.{names_sites, decl_sites, decls_sites, body_sites, sites}
-use Rattle.ada_static_rules.specs.Declaring.{first_scope, after_decl, inner_scope, after_decls}
-use Rattle.ada_static_rules.specs.RuleDuplicate.{is_predefined, is_among, fixes, introduces, duplicate}
-use Rattle.task_laws.specs.legal.rewritten_types.Rewriting.{names_declared, IsUnused, DeclareOnce, NamesOnce}
-use Rattle.task_laws.proofs.legal.rewritten_types.Refused.{no_word}
+use Rattle.ada_static_rules.specs.Demand.{Site}
+use Rattle.ada_static_rules.specs.Sites.{decls_sites, body_sites, sites}
+use Rattle.ada_static_rules.specs.Declaring.{first_scope, inner_scope, after_decls}
+use Rattle.task_laws.specs.legal.rewritten_types.Rewriting.{NamesOnce}
+use Rattle.task_laws.proofs.legal.rewritten_types.Refused.{IsOnce, decls-once, once-demand}
 use Rattle.normal_laws.specs.structure.once.Once.{AllOnce}
-
--- where a name is declared, it was not used before
-abbrev DeclaresUnused : Scope → Demand → Type 0
-DeclaresUnused scope (declares fixed w) = IsUnused scope w
-DeclaresUnused scope _ = Unit {0}
-
-abbrev IsOnce : Site → Type 0
-IsOnce s = DeclaresUnused s.scope s.demand
-
-once-demand : (before : List Site) (scope : Scope) (d : Demand) → duplicate before scope d ≡ [] → DeclaresUnused scope d
-once-demand before scope (declares fixed w) e =
-    let n = w.name.0 in
-    let f = no_word (is_predefined n || is_among scope.here n || list_any (fixes n) before || (fixed && list_any (introduces n) before)) w e in
-    let g = or_parts (is_predefined n || is_among scope.here n || list_any (fixes n) before) (fixed && list_any (introduces n) before) f in
-    let h = or_parts (is_predefined n || is_among scope.here n) (list_any (fixes n) before) g.0 in
-    or_parts (is_predefined n) (is_among scope.here n) h.0
-once-demand before scope _ e = tt
 
 each-once : (xs before : List Site) → AllOnce before xs → AllByRecursion IsOnce xs
 each-once [] before e = tt
 each-once (x ∷ xs) before e = (once-demand before x.scope x.demand e.0, each-once xs (x ∷ before) e.1)
-
-unused-before : (scope : Scope) (n : ℕ) (w : Word) → IsUnused (record scope { here = n ∷ scope.here }) w → IsUnused scope w
-unused-before scope n w h = (h.0, (or_parts (n == w.name.0) (is_among scope.here w.name.0) h.1).1)
-
-names-once : (fixed : Bool) (ws : List Word) (scope : Scope) → AllByRecursion IsOnce (names_sites fixed scope ws) → AllByRecursion (IsUnused scope) ws
-names-once fixed [] scope h = tt
-names-once fixed (w ∷ ws) scope h = (h.0, all_weaker _ (IsUnused scope) ws (unused-before scope w.name.0) (names-once fixed ws (record scope { here = w.name.0 ∷ scope.here }) h.1))
-
-decl-once : (d : PDecl) (s : Scope) → AllByRecursion IsOnce (decl_sites s d) → AllByRecursion (IsUnused s) (names_declared d)
-decl-once (DNumber name e sp) s h = (h.0, tt)
-decl-once (DObject names constant shape init sp) s h = names-once _ names s (all_front IsOnce _ _ (all_front IsOnce _ _ h))
-decl-once (DEnumeration name literals sp) s h = names-once true (name ∷ literals) s h
-decl-once (DArray name index x sp) s h = (h.0, tt)
-decl-once (DSubtype name x sp) s h = (h.0, tt)
-decl-once (DException names sp) s h = names-once true names s h
-decl-once (DIntIo name sp) s h = (h.1.0, tt)
-decl-once (DPragma e sp) s h = tt
-decl-once (DTask t sp) s h = (h.0, tt)
-decl-once (DTaskBody name objects its sp) s h = tt
-
-decls-once : (ds : PDecls) (s : Scope) → AllByRecursion IsOnce (decls_sites s ds) → DeclareOnce s ds
-decls-once no_decl s h = tt
-decls-once (decl_then d rest) s h = (decl-once d s (all_front IsOnce (decl_sites s d) _ h), decls-once rest (after_decl s d) (all_back IsOnce (decl_sites s d) _ h))
 
 pub places-once : (p : PProgram) → AllOnce [] (sites p) → NamesOnce p.name p.decls
 places-once p e =

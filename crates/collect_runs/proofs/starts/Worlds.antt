@@ -10,7 +10,7 @@ use Rattle.task_laws.specs.statements.Each.{Loops, HoldsOf}
 use Rattle.task_laws.specs.statements.Laws.{StaysSo}
 use Rattle.ada_tree.specs.declared.naming.Span.{Span}
 use Rattle.task_laws.proofs.statements.Carried.{stays-so}
-use Rattle.replay_runs.proofs.controls.meanings.Reading.{AllKeep, all_keep}
+use Rattle.table_law.proofs.runs.Keeping.{AllKeep, all_keep}
 use Rattle.collect_runs.specs.telling.Texts.{Texts, program_of}
 use Rattle.collect_runs.specs.imitating.Settings.{IsMade, Opened, Went}
 use Rattle.collect_runs.specs.starts.Laws.{IsNoAbort}

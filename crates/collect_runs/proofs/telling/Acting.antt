@@ -31,11 +31,11 @@ use Rattle.collect_runs.specs.telling.Texts.{Texts, form, text, teller, unit_row
 use Rattle.collect_runs.specs.telling.Forms.{Form}
 use Rattle.collect_runs.specs.telling.Meetings.{is_null_next, IsBased, IsNoting, IsCalling, IsEnding, IsLeaving, ActsAlike}
 use Rattle.collect_runs.specs.telling.Laws.{TellsAlike}
-use Rattle.collect_runs.proofs.telling.Standing.{not-left}
 use Rattle.collect_runs.proofs.telling.Pairs.{comes, steps}
 use Rattle.collect_runs.proofs.telling.Ending.{unit-tells, body-tells, left-tells}
 use Rattle.collect_runs.proofs.telling.Calling.{plain-tells, conditional-tells, timed-tells}
 use Rattle.collect_runs.proofs.telling.Waiting.{alts-told, accept-acts, waits-act}
+use Rattle.replay_runs.proofs.controls.meanings.Pairs.{not-left}
 
 -- ---- offers
 

@@ -1,70 +1,25 @@
 -- Which choices a wait has, by its open alternatives; and the alternatives that a task and its image have open alike.
 use Rattle.std.proofs.Common.{◌≡◌, ◌==◌, ℕ, ℤ, Bool, true, false, ◌||◌, cond, if◌then◌else◌, List, [], ◌∷◌, ◌++◌, find, Option, Some, None, Result, Ok, Err, refl, sym, ap, ap₂, subst, ◌∙◌, true≢false}
 use Rattle.std.specs.List.{filter_map, list_any, cons_option}
-use Rattle.std.proofs.lemmas.List.Folds.{list_any-append}
 use Rattle.event_machine.specs.declared.Choice.{Choice}
-use Rattle.event_machine.specs.declared.Choice.TheVariants.{Accept, Else, Delay, Terminate}
+use Rattle.event_machine.specs.declared.Choice.TheVariants.{Accept, Delay, Terminate}
 use Rattle.event_machine.specs.Offers.{Offer, Nothing, Calls, Waits, Finishes, Ends, Aborts, opens, is_else, is_delay}
 use Rattle.ada_value.specs.declared.values.Raised.{Raised}
 use Rattle.task_model.specs.Stands.{choices_stand, wait_stand, steps_at, offered}
 use Rattle.task_model.specs.Waits.{Open, Accepts, Delays, Terminates, accept_choice, is_shorter, delay_choice, terminate_choice, else_choice, choices_of, accepts_member}
 use Rattle.task_laws.proofs.translation.Results.{Both, both_ok, both_err}
 use Rattle.run_laws.specs.collecting.Copies.{based_offer}
+use Rattle.replay_runs.proofs.controls.meanings.Choosing.{any-none, no-else, parts, any-choice, chosen, no-accept as accept-chosen, no-close as close-chosen, no-delay as delay-chosen}
 
 -- ---- one wait
-
--- the choice that an open alternative gives, if it gives one, passes the test
-abbrev chosen : (Choice → Bool) → Option Choice → Bool
-chosen test None = false
-chosen test (Some c) = test c
-
-one-more : (test : Choice → Bool) (o : Option Choice) (cs : List Choice) → list_any test (cons_option o cs) ≡ (chosen test o || list_any test cs)
-one-more test None cs = refl
-one-more test (Some c) cs = refl
-
-any-choice : (test : Choice → Bool) (c : Open → Option Choice) (f : Open → Bool) → ((op : Open) → chosen test (c op) ≡ f op) → (xs : List Open) → list_any test (filter_map c xs) ≡ list_any f xs
-any-choice test c f same [] = refl
-any-choice test c f same (op ∷ xs) = one-more test (c op) (filter_map c xs) ∙ ap₂ (λ (a b : Bool). a || b) (same op) (any-choice test c f same xs)
-
-any-none : (xs : List Open) → list_any (λ op. false) xs ≡ false
-any-none [] = refl
-any-none (x ∷ xs) = any-none xs
 
 or-none : (a : Bool) → (a || (false || (false || false))) ≡ a
 or-none true = refl
 or-none false = refl
 
-accept-chosen : (test : Choice → Bool) → ((e : ℕ) (z : ℤ) → test (Accept e z) ≡ false) → (op : Open) → chosen test (accept_choice op) ≡ false
-accept-chosen test none (Accepts f j head body behind) = none f j
-accept-chosen test none (Delays n d l) = refl
-accept-chosen test none Terminates = refl
-
 delay-if : (test : Choice → Bool) (n : ℕ) (c : Bool) → test (Delay n) ≡ false → chosen test (if c then None else Some (Delay n)) ≡ false
 delay-if test n true none = refl
 delay-if test n false none = none
-
-delay-chosen : (test : Choice → Bool) → ((k : ℕ) → test (Delay k) ≡ false) → (all : List Open) (op : Open) → chosen test (delay_choice all op) ≡ false
-delay-chosen test none all (Accepts f j head body behind) = refl
-delay-chosen test none all (Delays n d l) = delay-if test n (list_any (is_shorter d) all) (none n)
-delay-chosen test none all Terminates = refl
-
-close-chosen : (test : Choice → Bool) → test Terminate ≡ false → (op : Open) → chosen test (terminate_choice op) ≡ false
-close-chosen test none (Accepts f j head body behind) = refl
-close-chosen test none (Delays n d l) = refl
-close-chosen test none Terminates = none
-
-no-else : (test : Choice → Bool) → test Else ≡ false → (b : Bool) → list_any test (else_choice b) ≡ false
-no-else test none true = ap (λ c. c || false) none
-no-else test none false = refl
-
--- what of the choices passes a test, part by part
-parts : (test : Choice → Bool) (b : Bool) (all : List Open) (p q r s : Bool) → list_any test (filter_map accept_choice all) ≡ p → list_any test (else_choice b) ≡ q →
-    list_any test (filter_map (delay_choice all) all) ≡ r → list_any test (filter_map terminate_choice all) ≡ s → list_any test (choices_of b all) ≡ (p || (q || (r || s)))
-parts test b all p q r s ep eq er es =
-    list_any-append test (filter_map accept_choice all) (else_choice b ++ (filter_map (delay_choice all) all ++ filter_map terminate_choice all))
-    ∙ ap₂ (λ (x y : Bool). x || y) ep
-    (list_any-append test (else_choice b) (filter_map (delay_choice all) all ++ filter_map terminate_choice all)
-    ∙ ap₂ (λ (x y : Bool). x || y) eq (list_any-append test (filter_map (delay_choice all) all) (filter_map terminate_choice all) ∙ ap₂ (λ (x y : Bool). x || y) er es))
 
 module _ (b : Bool) (all : List Open) where
   accepts-none : (test : Choice → Bool) → ((e : ℕ) (z : ℤ) → test (Accept e z) ≡ false) → list_any test (filter_map accept_choice all) ≡ false

@@ -1,25 +1,22 @@
 -- Ends of units and of accept bodies: the image tells of them, and then offers them.
-use Rattle.std.proofs.Common.{◌≡◌, ◌==◌, ℕ, zero, suc, ℤ, pos, Bool, true, false, if◌then◌else◌, List, [], ◌∷◌, ◌++◌, drop, length, Option, Some, None, refl, sym, ap, subst, ◌∙◌}
+use Rattle.std.proofs.Common.{◌≡◌, ◌==◌, ℕ, zero, suc, ℤ, pos, Bool, if◌then◌else◌, List, [], ◌∷◌, ◌++◌, Option, Some, None, refl, sym, ap, subst, ◌∙◌}
 use Rattle.ada_tree.specs.declared.naming.NameId.{NameId}
 use Rattle.ada_tree.specs.declared.naming.Span.{Span}
 use Rattle.ada_tree.specs.PlainStmt.{PStmts, no_stmt, stmt_then, PHandlers, no_handler}
 use Rattle.ada_value.specs.declared.values.Value.{Value}
 use Rattle.ada_value.specs.declared.values.Value.TheVariants.{Truth}
 use Rattle.ada_value.specs.declared.values.Raised.{Raised}
-use Rattle.ada_value.specs.Variables.{Object, Variables, value_there, with_value}
+use Rattle.ada_value.specs.Variables.{Object, Variables, with_value}
 use Rattle.task_model.specs.declared.parameters.FormalParameter.{FormalParameter}
 use Rattle.task_model.specs.Frames.{Around, OwnBody, Opened, Handling, PFrame, control, caller_at, callers_among}
 use Rattle.task_model.specs.Tasks.{Task}
-use Rattle.task_model.specs.Calls.{comes_back, finals_if, finals_in}
 use Rattle.task_model.specs.Rendezvous.{going_on, finished}
-use Rattle.task_laws.specs.translation.Translations.{Programs, Rewriting, Translation, IsKnown}
+use Rattle.task_laws.specs.translation.Translations.{Programs, Rewriting, Translation}
 use Rattle.task_laws.specs.translation.OldTexts.{only_names}
 use Rattle.task_laws.specs.translation.Controls.{frame, task_in, Under, on_floor, in_block, in_handler, in_endless, in_while, in_count}
 use Rattle.task_laws.proofs.translation.Frames.{add-alike}
 use Rattle.task_laws.proofs.translation.Mapping.{under-map}
 use Rattle.normal_model.specs.Making.{one}
-use Rattle.normal_laws.specs.runs.floors.Meetings.{AreValues, no_value, value_then}
-use Rattle.normal_laws.specs.runs.floors.NormalFloors.{AreOpen, none_open, open_then}
 use Rattle.normal_laws.specs.runs.floors.Preludes.{reaches_here, reaches_by}
 use Rattle.normal_laws.proofs.runs.floors.Extending.{Fronts, fronts, own-add}
 use Rattle.run_laws.specs.collecting.Notes.{Note, AtFinish, AtEnd}
@@ -37,29 +34,7 @@ use Rattle.collect_runs.specs.telling.Forms.{Form}
 use Rattle.collect_runs.specs.telling.Meetings.{ComesTo, IsBased, IsNoting, IsEnding, IsLeaving}
 use Rattle.collect_runs.proofs.telling.Noting.{here, later, literal, hearing, going, notes, zero-told}
 use Rattle.collect_runs.proofs.telling.Pairs.{row-comes, raise-comes}
-
--- ---- the formals of an accept body in front
-
-pub formals-left : {b : Programs} {fs : List FormalParameter} {bs : List Object} → AreOpen b fs bs → (V : Variables) → drop (length fs) (bs ++ V) ≡ V
-formals-left none_open V = refl
-formals-left (open_then f o fs os old known h) V = formals-left h V
-
-pub finals-one : (b : Bool) (o : Object) (vs ws : List Value) → vs ≡ ws → finals_if b o vs ≡ finals_if b o ws
-finals-one true o vs ws e = ap (λ us. finals_if true o us) e
-finals-one false o vs ws e = e
-
-pub finals-same : {b : Programs} {fs : List FormalParameter} {bs : List Object} → AreOpen b fs bs → (V V' : Variables) → finals_in fs (bs ++ V) ≡ finals_in fs (bs ++ V')
-finals-same none_open V V' = refl
-finals-same (open_then f o fs os old known h) V V' = finals-one (comes_back f.mode) o (finals_in fs (os ++ V)) (finals_in fs (os ++ V')) (finals-same h V V')
-
-pub known-one : (b : Programs) (c : Bool) (o : Object) (vs : List Value) → IsKnown b (value_there o 0) → AreValues b vs → AreValues b (finals_if c o vs)
-known-one b true o vs known h = value_then (value_there o 0) vs known h
-known-one b false o vs known h = h
-
--- what comes back is of known kinds
-pub finals-known : {b : Programs} {fs : List FormalParameter} {bs : List Object} → AreOpen b fs bs → (V : Variables) → AreValues b (finals_in fs (bs ++ V))
-finals-known none_open V = no_value
-finals-known {b} (open_then f o fs os old known h) V = known-one b (comes_back f.mode) o (finals_in fs (os ++ V)) (known.0 0) (finals-known h V)
+use Rattle.replay_runs.proofs.controls.meanings.Ends.{finals-known, finals-same, formals-left}
 
 -- ---- callers
 

@@ -25,8 +25,9 @@ use Rattle.collect_runs.proofs.translation.Carried.{translates, collect_is_close
 use Rattle.collect_runs.specs.telling.Texts.{Texts, form, text, teller, unit_rows, unit_translation, CanTell}
 use Rattle.collect_runs.specs.telling.Forms.{Form}
 use Rattle.collect_runs.specs.telling.Meetings.{ComesTo, is_null_next, IsPair, IsBased}
-use Rattle.collect_runs.proofs.telling.Standing.{is_plain, plain, not-left}
+use Rattle.collect_runs.proofs.telling.Standing.{is_plain}
 use Rattle.collect_runs.proofs.telling.Noting.{here}
+use Rattle.replay_runs.proofs.controls.meanings.Pairs.{not-left, plain}
 
 module _ (x : Texts) (can : CanTell x) (t : ℕ) where
   abbrev y : Translation

@@ -2,7 +2,7 @@
 use Rattle.std.proofs.Common.{◌≡◌, ◌==◌, Bool, true, false, if◌then◌else◌, List, [], None, refl, subst, sym}
 use Rattle.std.specs.Prelude.{ℕ, ℤ}
 use Rattle.ada_tree.specs.declared.naming.Span.{Span}
-use Rattle.ada_tree.specs.PlainStmt.{PStmts, no_stmt, stmt_then, PBody, PHandlers, no_handler, handler_then, handler}
+use Rattle.ada_tree.specs.PlainStmt.{PStmts, PBody, PHandlers, no_handler, handler_then, handler}
 use Rattle.ada_value.specs.Variables.{Variables}
 use Rattle.task_model.specs.Frames.{OwnBody, Around, PFrame, control, settled}
 use Rattle.task_model.specs.Steps.{block_stmts, block_handlers}
@@ -24,6 +24,7 @@ use Rattle.collect_runs.specs.translation.Laws.{CollectTranslates, CollectIsClos
 use Rattle.collect_runs.proofs.translation.Kept.{still_stmts}
 use Rattle.collect_runs.proofs.translation.Rows.{rows, handler-rows, are-images}
 use Rattle.collect_runs.proofs.translation.Floors.{floor-row, up, is-translation, is-closed, variables-there}
+use Rattle.replay_runs.proofs.translation.Carried.{own-settled}
 
 pub translates : (a : Asked) (x : Teller) → AreNamesAdded a.programs x.added → AgreeOnTypes a.programs → IsTranslation (into_collecting (telling_rows a x) x)
 translates a x new types = is-translation (telling_rows a x) (are-images a x) types x new
@@ -44,10 +45,6 @@ pub collect_keeps_variables : CollectKeepsVariables
 collect_keeps_variables b x new σ κ (are_around n i w r r' f) = variables-there (telling_rows (only_names b) x) x new f
 
 -- ---- the start
-
-pub own-settled : (hs : PHandlers) (l : PStmts) (V : Variables) → settled (control l (OwnBody hs None) [] V) ≡ control l (OwnBody hs None) [] V
-own-settled hs no_stmt V = refl
-own-settled hs (stmt_then s l) V = refl
 
 -- a row on a floor where no accept body is open, and its image once frames that are over are left
 begins : (a : Asked) (x : Teller) (new : AreNamesAdded a.programs x.added) (types : AgreeOnTypes a.programs) (n : ℕ) (input : List ℤ) (hs : PHandlers) (l l' : PStmts) (p' : Around) (o' : List PFrame) (V V' : Variables) →

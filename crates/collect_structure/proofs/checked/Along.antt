@@ -48,10 +48,10 @@ use Rattle.collect_structure.proofs.checked.Asked.{H, R, a, b, pieces}
 use Rattle.collect_structure.proofs.checked.Alike.{AreAlike, new-alike}
 use Rattle.replay_structure.proofs.checked.Plain.{object-stays, plain-decl}
 use Rattle.collect_structure.proofs.checked.Tasks.{added-declared, task-met}
-use Rattle.collect_structure.proofs.checked.Bodies.{object-alike, use-object, answer_words, part_words, answer-new, part-new, AreBehindTasks, body-around}
+use Rattle.collect_structure.proofs.checked.Bodies.{object-alike, answer_words, part_words, answer-new, part-new, AreBehindTasks, body-around}
 use Rattle.collect_structure.proofs.checked.Before.{n, AreBefore, same-there, plain-before, answer-before, part-before, task-before, uses-there}
 use Rattle.replay_structure.proofs.checked.Stays.{IsFormMet}
-use Rattle.replay_structure.proofs.checked.Bodies.{frame-object}
+use Rattle.replay_structure.proofs.checked.Bodies.{frame-object, use-object}
 
 -- ---- what units declare more
 

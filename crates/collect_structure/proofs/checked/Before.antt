@@ -16,7 +16,7 @@ use Rattle.syn_event.specs.Extents.{is_array_type}
 use Rattle.syn_event.specs.RuleSharedVariable.{shared_name, in_body_of}
 use Rattle.normal_model.specs.Ranges.{word_at}
 use Rattle.normal_laws.proofs.structure.numbers.Listed.{IsPlain}
-use Rattle.normal_laws.proofs.structure.checked.MainScopes.{IsFrameOf, ArePlain, IsNoType, decls-plain, name-free, frame-trans, decl-frame}
+use Rattle.normal_laws.proofs.structure.checked.MainScopes.{IsFrameOf, ArePlain, decls-plain, name-free, frame-trans, decl-frame}
 use Rattle.normal_laws.specs.structure.numbers.Single.{IsSingle}
 use Rattle.replay_structure.specs.checked.Checkable.{IsSameDecl}
 use Rattle.replay_structure.proofs.checked.Scopes.{with_name, meant-beside}
@@ -32,51 +32,7 @@ use Rattle.collect_structure.proofs.checked.Stays.{UsesStay}
 use Rattle.collect_structure.proofs.checked.Alike.{AreAlike, meant-alike, decl-alike, new-alike, new-object}
 use Rattle.collect_structure.proofs.checked.Bodies.{answer-new, part-new, AreBehindTasks}
 use Rattle.common_lemmas.proofs.Truth.{or_both}
-
--- ---- one declaration
-
-pub single-none : (main : ℕ) (x : PDecl) → IsSingle x → IsNoType main x
-single-none main (DTask t s) h = h
-single-none main (DTaskBody w objects its s) h = tt
-single-none main (DNumber w e s) h = tt
-single-none main (DObject ws c x i s) h = tt
-single-none main (DEnumeration w ws s) h = tt
-single-none main (DArray w r x s) h = tt
-single-none main (DSubtype w x s) h = tt
-single-none main (DException ws s) h = tt
-single-none main (DIntIo w s) h = tt
-single-none main (DPragma e s) h = tt
-
--- ---- units stay where no task is declared
-
-pub units-meant : (m : Meant) (c : CheckScope) (ws : List Word) → (with_meant m c ws).units ≡ c.units
-units-meant m c [] = refl
-units-meant m c (w ∷ ws) = units-meant m (with_name c w.name.0 m) ws
-
-pub units-value : (b : Bool) (c : CheckScope) (ws : List Word) → (with_declared_object b c ws).units ≡ c.units
-units-value true c ws = units-meant Shared c ws
-units-value false c ws = refl
-
-pub units-object : (m : Option Meant) (c : CheckScope) (mark : Word) (b : Bool) (ws : List Word) → (with_object c m mark b ws).units ≡ c.units
-units-object (Some TaskType) c mark b ws = units-meant (TaskOf mark.name) c ws
-units-object (Some MainProcedure) c mark b ws = units-value b c ws
-units-object (Some (TaskOf x)) c mark b ws = units-value b c ws
-units-object (Some Shared) c mark b ws = units-value b c ws
-units-object (Some Inner) c mark b ws = units-value b c ws
-units-object None c mark b ws = units-value b c ws
-
-pub units-decl : (x : PDecl) (c : CheckScope) → IsPlain x → (after_decl c x).units ≡ c.units
-units-decl (DObject ws constant (OPlain x) i s) c p = units-object (meaning c x.mark.name) c x.mark (not constant || is_array_type c.types x.mark.name) ws
-units-decl (DObject ws constant (OArray r x) i s) c p = units-object (meaning c x.mark.name) c x.mark true ws
-units-decl (DNumber w e s) c p = refl
-units-decl (DEnumeration w ws s) c p = refl
-units-decl (DArray w r x s) c p = refl
-units-decl (DSubtype w x s) c p = refl
-units-decl (DException ws s) c p = refl
-units-decl (DIntIo w s) c p = refl
-units-decl (DPragma e s) c p = refl
-units-decl (DTask t s) c p = absurd p
-units-decl (DTaskBody w objects its s) c p = absurd p
+use Rattle.replay_structure.proofs.checked.Before.{single-none, units-decl}
 
 -- ---- the truth values stay no variables
 

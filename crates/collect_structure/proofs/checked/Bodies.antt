@@ -18,10 +18,10 @@ use Rattle.syn_event.specs.RuleAcceptPlace.{is_among, is_own_entry}
 use Rattle.syn_event.specs.RuleMainEntry.{main_entry}
 use Rattle.syn_event.specs.RuleSharedVariable.{shared_name, in_body_of, shared_variable}
 use Rattle.syn_event.specs.DeclaredTasks.{decl_list}
-use Rattle.normal_laws.proofs.structure.checked.MainScopes.{IsFrameOf, meant-frame}
+use Rattle.normal_laws.proofs.structure.checked.MainScopes.{IsFrameOf}
 use Rattle.normal_model.specs.Ranges.{word_at}
 use Rattle.replay_model.specs.ReplayTree.{is_added_object}
-use Rattle.replay_structure.proofs.checked.Scopes.{uses-under, callees-under, inner-use}
+use Rattle.replay_structure.proofs.checked.Scopes.{uses-under, inner-use}
 use Rattle.replay_structure.proofs.checked.Units.{entries_named}
 use Rattle.collect_model.specs.Names.{answer_text, part_text, recorder_text, collect_names, added_in}
 use Rattle.collect_model.specs.CollectTree.{unit_declared, behind_own}
@@ -30,49 +30,9 @@ use Rattle.collect_structure.specs.checked.Around.{IsTelling}
 use Rattle.collect_structure.specs.checked.Checkable.{is_truth}
 use Rattle.collect_structure.proofs.checked.Names.{added-other}
 use Rattle.collect_structure.proofs.checked.Alike.{AreAlike, IsNewWord, meant-alike, new-alike}
-use Rattle.replay_structure.proofs.checked.Bodies.{after_objects, objects-listed, objects-of, frame-object}
+use Rattle.replay_structure.proofs.checked.Bodies.{after_objects, objects-listed, objects-of, callee-objects, frame-objects, use-objects}
 
 -- ---- the objects of a body as a list
-
-pub frame-objects : (xs : List PDecl) (c : CheckScope) → IsFrameOf c (after_objects c xs)
-frame-objects [] c = meant-frame Inner c []
-frame-objects (x ∷ xs) c =
-    let h = frame-object x c in
-    let i = frame-objects xs (after_own_object c x) in
-    record { types = i.types ∙ h.types; own = i.own ∙ h.own; accepting = i.accepting ∙ h.accepting; loops = i.loops ∙ h.loops; in_handler = i.in_handler ∙ h.in_handler }
-
--- a name that is no shared variable, or may be called, is so behind objects
-pub use-object : (x : PDecl) (c : CheckScope) (id : NameId) (s : Span) → shared_variable c (uses id s) ≡ [] → shared_variable (after_own_object c x) (uses id s) ≡ []
-use-object (DObject ws constant shape i s') c id s h = uses-under c ws id s h
-use-object (DTask t s') c id s h = h
-use-object (DTaskBody w objects its s') c id s h = h
-use-object (DNumber w e s') c id s h = h
-use-object (DEnumeration w ws s') c id s h = h
-use-object (DArray w r x s') c id s h = h
-use-object (DSubtype w x s') c id s h = h
-use-object (DException ws s') c id s h = h
-use-object (DIntIo w s') c id s h = h
-use-object (DPragma e s') c id s h = h
-
-pub use-objects : (xs : List PDecl) (c : CheckScope) (id : NameId) (s : Span) → shared_variable c (uses id s) ≡ [] → shared_variable (after_objects c xs) (uses id s) ≡ []
-use-objects [] c id s h = h
-use-objects (x ∷ xs) c id s h = use-objects xs (after_own_object c x) id s (use-object x c id s h)
-
-pub callee-object : (x : PDecl) (c : CheckScope) (w : Word) → main_entry c (addresses w) ≡ [] → main_entry (after_own_object c x) (addresses w) ≡ []
-callee-object (DObject ws constant shape i s) c w h = callees-under c ws w h
-callee-object (DTask t s) c w h = h
-callee-object (DTaskBody v objects its s) c w h = h
-callee-object (DNumber v e s) c w h = h
-callee-object (DEnumeration v ws s) c w h = h
-callee-object (DArray v r x s) c w h = h
-callee-object (DSubtype v x s) c w h = h
-callee-object (DException ws s) c w h = h
-callee-object (DIntIo v s) c w h = h
-callee-object (DPragma e s) c w h = h
-
-pub callee-objects : (xs : List PDecl) (c : CheckScope) (w : Word) → main_entry c (addresses w) ≡ [] → main_entry (after_objects c xs) (addresses w) ≡ []
-callee-objects [] c w h = h
-callee-objects (x ∷ xs) c w h = callee-objects xs (after_own_object c x) w (callee-object x c w h)
 
 module _ (q : PProgram) where
   -- ---- kept names

@@ -1,7 +1,6 @@
 -- The selective waits of a collecting text: their alternatives are of the same kinds, and no two accepts are for one caller where none are in the normal form.
-use Rattle.std.proofs.Common.{◌≡◌, ℕ, ℤ, ◌+◌, ◌==◌, Bool, not, ◌&&◌, ◌||◌, nat_lt, cond, if◌then◌else◌, List, [], ◌∷◌, ◌++◌, map, count_by, Option, Some, None, IfSome, refl, sym, ap, ap₂, ◌∙◌}
+use Rattle.std.proofs.Common.{◌≡◌, ℕ, ℤ, ◌+◌, ◌==◌, Bool, not, ◌&&◌, ◌||◌, nat_lt, if◌then◌else◌, List, [], ◌∷◌, ◌++◌, map, count_by, Option, Some, None, IfSome, refl, ap, ap₂, ◌∙◌}
 use Rattle.std.specs.List.{AllByRecursion, list_any}
-use Rattle.std.proofs.lemmas.List.Sums.{sum_by-cons}
 use Rattle.ada_tree.specs.declared.naming.Span.{Span}
 use Rattle.ada_tree.specs.TypeTable.{TypeTable}
 use Rattle.ada_tree.specs.PlainExpr.{PExpr}
@@ -15,12 +14,9 @@ use Rattle.collect_model.specs.Teller.{Teller}
 use Rattle.collect_model.specs.Serving.{head_telling}
 use Rattle.collect_model.specs.Waiting.{alternatives_told}
 use Rattle.collect_model.specs.CollectStmts.{collect_rewriter}
+use Rattle.normal_laws.proofs.structure.checked.Waits.{count-step}
 
 -- ---- the kinds of alternatives
-
-pub count-step : (p : PAltKind → Bool) (x y : PAltKind) (xs ys : List PAltKind) → p x ≡ p y → count_by p xs ≡ count_by p ys → count_by p (x ∷ xs) ≡ count_by p (y ∷ ys)
-count-step p x y xs ys e f =
-    sum_by-cons (λ z. cond (p z) 1 0) x xs ∙ ap (λ t. cond t 1 0 + count_by p xs) e ∙ ap (λ n. cond (p y) 1 0 + n) f ∙ sym (sum_by-cons (λ z. cond (p z) 1 0) y ys)
 
 -- the alternatives are of the same kinds
 pub record SameKinds (xs ys : List PAltKind) : Type 0 where

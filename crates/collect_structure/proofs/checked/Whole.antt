@@ -5,7 +5,7 @@ use Rattle.std.proofs.lemmas.List.{length-map}
 use Rattle.common_lemmas.proofs.Lists.{all_joined, all_kept, all_three, all_first, all_second}
 use Rattle.common_lemmas.proofs.Numbers.{equal_self}
 use Rattle.ada_tree.specs.declared.naming.Span.{Span}
-use Rattle.ada_tree.specs.PlainDecl.{PTask, PDecl, DNumber, DObject, DEnumeration, DArray, DSubtype, DException, DIntIo, DPragma, DTask, DTaskBody}
+use Rattle.ada_tree.specs.PlainDecl.{PTask, PDecl}
 use Rattle.ada_tree.specs.PlainProgram.{PProgram}
 use Rattle.ada_tree.specs.Every.{EveryDecl}
 use Rattle.ada_static_rules.specs.Refusals.{types_in}
@@ -20,7 +20,6 @@ use Rattle.syn_event.specs.DeclaredTasks.{decl_list, tasks_in, tasks_of}
 use Rattle.task_laws.proofs.legal.sites.Meeting.{all_check_met}
 use Rattle.task_model.specs.Setting.{Setting}
 use Rattle.normal_model.specs.NormalTree.{main_unit}
-use Rattle.normal_laws.proofs.structure.numbers.Listed.{IsOneBody}
 use Rattle.normal_laws.proofs.structure.checked.Joined.{meets-checks}
 use Rattle.normal_laws.proofs.structure.checked.MainScopes.{frame-refl}
 use Rattle.normal_laws.specs.structure.numbers.Single.{IsSingle}
@@ -39,7 +38,7 @@ use Rattle.collect_model.specs.Lines.{header_text}
 use Rattle.collect_model.specs.CollectTree.{is_int_io, entry_telling, task_telling, collect_decl, objects_told, recorder_told, recorder_body_told, collect_decls, collect_of}
 use Rattle.collect_structure.specs.Names.{added_id, kept_names}
 use Rattle.collect_structure.specs.checked.Checkable.{IsOtherThanTruths, HasFewFormals, IsCheckable}
-use Rattle.collect_structure.proofs.texts.Listed.{all-behind, all-main, one-tasks, one-bodies}
+use Rattle.collect_structure.proofs.texts.Listed.{all-behind, all-main}
 use Rattle.collect_structure.proofs.texts.Rooted.{collect-tells, collect-tasks}
 use Rattle.collect_structure.proofs.texts.Telling.{recorder_tasks, all-told-tasks, all-told-bodies, told-bodies, told-ids}
 use Rattle.collect_structure.proofs.checked.Stays.{IsTextMet, name-stays}
@@ -49,22 +48,9 @@ use Rattle.collect_structure.proofs.checked.Before.{AreBefore, behind_added, add
 use Rattle.collect_structure.proofs.checked.Recorded.{recorder-body-met}
 use Rattle.collect_structure.proofs.checked.Along.{HasAlong, front-along, tasks-along, main-met, bodies-along}
 use Rattle.replay_structure.proofs.checked.Stays.{IsFormMet}
+use Rattle.replay_structure.proofs.checked.Whole.{bodies-same, one-bodies, one-tasks}
 
 -- ---- lists
-
--- bodies leave what stands around as it is
-pub bodies-same : (c : CheckScope) (xs : List PDecl) → AllByRecursion IsOneBody xs → after_all c xs ≡ c
-bodies-same c [] h = refl
-bodies-same c (DTaskBody w objects its s ∷ xs) h = bodies-same c xs h.1
-bodies-same c (DTask t s ∷ xs) h = absurd h.0
-bodies-same c (DNumber w e s ∷ xs) h = absurd h.0
-bodies-same c (DObject ws k x i s ∷ xs) h = absurd h.0
-bodies-same c (DEnumeration w ws s ∷ xs) h = absurd h.0
-bodies-same c (DArray w r x s ∷ xs) h = absurd h.0
-bodies-same c (DSubtype w x s ∷ xs) h = absurd h.0
-bodies-same c (DException ws s ∷ xs) h = absurd h.0
-bodies-same c (DIntIo w s ∷ xs) h = absurd h.0
-bodies-same c (DPragma e s ∷ xs) h = absurd h.0
 
 pub entries-kept : (n : AddedNames) (ts : List PTask) → entries_count (map (task_telling n) ts) ≡ entries_count ts
 entries-kept n [] = refl

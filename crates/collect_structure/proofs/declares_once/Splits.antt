@@ -3,55 +3,21 @@ use Rattle.std.proofs.Common.{◌≡◌, ℕ, Bool, true, false, if◌then◌els
 use Rattle.std.specs.List.{AllByRecursion, list_any}
 use Rattle.std.proofs.lemmas.Bool.{or_from, or_parts}
 use Rattle.std.proofs.lemmas.List.{append_assoc, append-nil}
-use Rattle.std.proofs.lemmas.Grind.{flat_map-append}
-use Rattle.common_lemmas.proofs.Lists.{all_front, all_back, all_joined, all_weaker}
+use Rattle.common_lemmas.proofs.Lists.{all_front, all_back}
 use Rattle.ada_tree.specs.declared.naming.Word.{Word}
 use Rattle.ada_tree.specs.PlainDecl.{PDecl, DNumber, DObject, DEnumeration, DArray, DSubtype, DException, DIntIo, DPragma, DTask, DTaskBody}
 use Rattle.ada_static_rules.specs.Sites.{with_words}
 use Rattle.ada_decl_rules.specs.duplicates.NamedSoFar.{object_words}
 use Rattle.ada_decl_rules.specs.duplicates.NamingsInOrder.{declared}
 use Rattle.ada_decl_rules.specs.declared.duplicates.namings_in_order.Naming.{Naming}
-use Rattle.ada_decl_rules.specs.declared.duplicates.namings_in_order.Naming.TheVariants.{Declares, Labels, Once}
+use Rattle.ada_decl_rules.specs.declared.duplicates.namings_in_order.Naming.TheVariants.{Once}
 use Rattle.ada_decl_rules.proofs.duplicates.Noting.{declared_append}
 use Rattle.task_laws.specs.legal.rewritten_types.Rewriting.{names_declared}
-use Rattle.normal_laws.specs.structure.once.Apart.{IsFreeOf, AreApart, AreDistinct, fixed_name, fixed_names, loose_names}
 use Rattle.normal_laws.proofs.structure.numbers.Listed.{IsPlain}
-use Rattle.normal_laws.proofs.structure.once.Once.{free-front, free-back, free-both, apart-turned, distinct-front, distinct-back, distinct-apart, distinct-both}
 use Rattle.replay_model.specs.ReplayTree.{is_added_object}
-use Rattle.replay_structure.specs.declares_once.Names.{word_named}
 use Rattle.replay_structure.proofs.declares_once.Grown.{IsGood, IsGrown, grown-words, IsSame, same-joined, same-then, declared-same}
 use Rattle.replay_structure.proofs.declares_once.Plain.{plain_names, instance_behind, plains_names, words-joined}
 use Rattle.collect_model.specs.CollectTree.{behind_own, is_int_io}
-
--- ---- lists of names
-
--- names that are put among names that differ
-pub put-distinct : (xs ys zs : List ℕ) → AreDistinct (xs ++ zs) → AreDistinct ys → AreApart (xs ++ zs) ys → AreDistinct (xs ++ (ys ++ zs))
-put-distinct xs ys zs d e a =
-    let front : AreApart xs ys = all_weaker (IsFreeOf (xs ++ zs)) (IsFreeOf xs) ys (λ y f. free-front xs zs y f) a in
-    let back : AreApart zs ys = all_weaker (IsFreeOf (xs ++ zs)) (IsFreeOf zs) ys (λ y f. free-back xs zs y f) a in
-    distinct-both xs (ys ++ zs) (distinct-front xs zs d) (distinct-both ys zs e (distinct-back xs zs d) (apart-turned zs ys back)) (all_joined (IsFreeOf xs) ys zs front (distinct-apart xs zs d))
-
-pub put-free : (xs ys zs : List ℕ) (x : ℕ) → IsFreeOf (xs ++ zs) x → IsFreeOf ys x → IsFreeOf (xs ++ (ys ++ zs)) x
-put-free xs ys zs x h k = free-both xs (ys ++ zs) x (free-front xs zs x h) (free-both ys zs x k (free-back xs zs x h))
-
--- namings of no new names fix and declare none
-pub clear-names : (X : List ℕ) (ns : List Naming) → AllByRecursion (λ (n : Naming). IsFreeOf X (word_named n).name.0) ns → AreApart X (fixed_names ns) × AreApart X (loose_names ns)
-clear-names X [] h = (tt, tt)
-clear-names X (Declares true a w ∷ ns) h = let r = clear-names X ns h.1 in ((h.0, r.0), r.1)
-clear-names X (Declares false a w ∷ ns) h = let r = clear-names X ns h.1 in (r.0, (h.0, r.1))
-clear-names X (Labels w ∷ ns) h = let r = clear-names X ns h.1 in (r.0, (h.0, r.1))
-clear-names X (Once a w ∷ ns) h = clear-names X ns h.1
-
--- the fixed names of the five parts
-pub five-fixed : (a b c d e : List Naming) → fixed_names ((a ++ (b ++ c ++ d)) ++ e) ≡ (fixed_names a ++ (fixed_names b ++ fixed_names c)) ++ (fixed_names d ++ fixed_names e)
-five-fixed a b c d e =
-    flat_map-append fixed_name (a ++ (b ++ c ++ d)) e
-    ∙ ap (λ (l : List ℕ). l ++ fixed_names e)
-    (flat_map-append fixed_name a (b ++ c ++ d)
-    ∙ ap (λ (l : List ℕ). fixed_names a ++ l) (flat_map-append fixed_name (b ++ c) d ∙ ap (λ (l : List ℕ). l ++ fixed_names d) (flat_map-append fixed_name b c))
-    ∙ sym (append_assoc (fixed_names a) (fixed_names b ++ fixed_names c) (fixed_names d)))
-    ∙ append_assoc (fixed_names a ++ (fixed_names b ++ fixed_names c)) (fixed_names d) (fixed_names e)
 
 -- ---- declarations that are put among those of main
 

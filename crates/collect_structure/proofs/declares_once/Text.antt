@@ -49,8 +49,9 @@ use Rattle.collect_structure.specs.Names.{new_texts}
 use Rattle.collect_structure.specs.declares_once.Names.{IsKept, LeavesNames}
 use Rattle.collect_structure.proofs.texts.Listed.{all-behind, all-main}
 use Rattle.collect_structure.proofs.declares_once.Ids.{id, ids, pick, pick-free, texts-apart, own-clear, all-new, new-not-predefined}
-use Rattle.collect_structure.proofs.declares_once.Splits.{put-distinct, put-free, clear-names, five-fixed, IsSplit, split, instances, plains-append, none-instances, plains-any, any-parts, plains-same, IsVariable, variables-plain, variables-instances, variables-words, variables-names}
+use Rattle.collect_structure.proofs.declares_once.Splits.{IsSplit, split, instances, plains-append, none-instances, plains-any, any-parts, plains-same, IsVariable, variables-plain, variables-instances, variables-words, variables-names}
 use Rattle.collect_structure.proofs.declares_once.Units.{loose_texts, IsLoose, words-put, unit-fresh, recorder_task, recorder-fit, tasks-same, more-words}
+use Rattle.replay_structure.proofs.declares_once.Whole.{clear-names, five-fixed, put-distinct, put-free}
 
 module _ (p : PProgram) (types : TypeTable) (numbers : Numbering) where
   -- ---- the normal form

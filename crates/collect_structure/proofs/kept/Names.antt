@@ -1,6 +1,6 @@
 -- The names of a normal form that its collecting text does not add: those of the program, its variables, and its tasks. They are kept there.
-use Rattle.std.proofs.Common.{◌≡◌, ℕ, suc, ◌+◌, ◌<◌, ◌-◌, ℤ, ◌&&◌, not, nat_eq, Bool, true, false, ◌||◌, List, [], ◌∷◌, ◌++◌, length, slice_get, unwrap_or, codes, Option, Some, None, IsSomeAnd, refl, sym, ap, ap₂, ◌∙◌, subst, true≢false, arith}
-use Rattle.std.specs.List.{AllByRecursion, list_any, starts_with}
+use Rattle.std.proofs.Common.{◌≡◌, ℕ, suc, ◌+◌, ◌<◌, ◌-◌, ℤ, ◌&&◌, not, Bool, true, false, List, [], ◌∷◌, ◌++◌, length, slice_get, unwrap_or, codes, Option, Some, None, IsSomeAnd, refl, sym, ap, ap₂, ◌∙◌, subst, true≢false, arith}
+use Rattle.std.specs.List.{AllByRecursion, list_any}
 use Rattle.std.specs.Str.{bytes_eq}
 use Rattle.std.proofs.lemmas.Bool.{or_from}
 use Rattle.std.proofs.lemmas.List.{append_assoc}
@@ -29,6 +29,8 @@ use Rattle.normal_laws.proofs.existence.units.TaskNames.{mark-there}
 use Rattle.normal_laws.proofs.existence.units.TasksApart.{full_text, IsNamed}
 use Rattle.normal_laws.proofs.legality.declares_once.Ids.{IsGoodId}
 use Rattle.collect_structure.specs.Names.{new_texts, IsOwn, kept_name}
+use Rattle.replay_structure.proofs.declares_once.Texts.{begins_ded, no-ded}
+use Rattle.replay_structure.proofs.legal.Keeping.{IsKeeping}
 
 -- ---- texts
 
@@ -40,16 +42,6 @@ none-by f t (u ∷ us) i n = or_from (bytes_eq t u) (list_any (bytes_eq t) us) (
     by_test : (b : Bool) → bytes_eq t u ≡ b → b ≡ false
     by_test false e = refl
     by_test true e = absurd (true≢false (sym i.0 ∙ ap f (sym ((bytes_eq-Decides t u).0 e)) ∙ n))
-
-abbrev pub begins_ded : List ℕ → Bool
-begins_ded t = starts_with nat_eq t (codes "DED_")
-
-pub no-ded : (t : List ℕ) → is_reserved t ≡ false → begins_ded t ≡ false
-no-ded t h = by_test (begins_ded t) h
-  where
-    by_test : (b : Bool) → (b || (has_mark t || bytes_eq t (codes "DED"))) ≡ false → b ≡ false
-    by_test false e = refl
-    by_test true e = absurd (true≢false e)
 
 -- a text that does not begin with DED_
 pub plain-text : (t : List ℕ) → begins_ded t ≡ false → list_any (bytes_eq t) new_texts ≡ false
@@ -127,13 +119,6 @@ own-is-kept q x o = by_place (slice_get q.names x) refl o
     by_place None e k = absurd k
     by_place (Some t) e k =
         ap₂ (λ (a b : Bool). a && not b) (lt_true x (length q.names) (slice_get_within q.names x t e)) (ap (λ (s : Option (List ℕ)). list_any (bytes_eq (unwrap_or s [])) new_texts) e ∙ k)
-
--- A test holds of the program's own names, and of those of the names of its normal form that are good, or of variables or tasks.
-pub record IsKeeping (p : PProgram) (kept : ℕ → Bool) : Type 0 where
-  pub old : (k : ℕ) → own_name p k ≡ true → kept k ≡ true
-  pub good : (x : ℕ) → IsGoodId p.names x → kept x ≡ true
-  pub variable : (k : ℕ) → k < variables_needed (setting_for p) → kept (variable_name (setting_for p) k).0 ≡ true
-  pub task : (info : TaskInfo) → IsNamed (setting_for p) info → kept (task_name (setting_for p) info).0 ≡ true
 
 -- the program's own names
 pub own-kept : (p : PProgram) (k : ℕ) → own_name p k ≡ true → kept_name (made_for p) k ≡ true

@@ -48,8 +48,8 @@ use Rattle.collect_structure.specs.Laws.{text_for}
 use Rattle.collect_structure.specs.checked.Checkable.{is_truth, IsOtherThanTruths, HasFewFormals, IsCheckable}
 use Rattle.collect_structure.proofs.texts.Rooted.{collect_agrees}
 use Rattle.collect_structure.proofs.kept.Names.{own-kept, kept-keeping}
-use Rattle.collect_structure.proofs.kept.Main.{main-kept}
-use Rattle.collect_structure.proofs.kept.Declared.{declarations-kept}
+use Rattle.replay_structure.proofs.legal.Kept.{main-kept}
+use Rattle.replay_structure.proofs.legal.Declared.{declarations-kept}
 
 -- ---- no object is named FALSE or TRUE
 

@@ -1,5 +1,5 @@
 -- The declarations of a collecting text are well placed.
-use Rattle.std.proofs.Common.{Bool, ◌≡◌, ℕ, zero, suc, pred, ◌==◌, ◌≤◌, ◌||◌, false, not, List, [], ◌∷◌, ◌++◌, drop, length, map, refl, sym, subst, arith, append_assoc}
+use Rattle.std.proofs.Common.{Bool, ℕ, ◌==◌, ◌≤◌, ◌||◌, not, List, [], ◌∷◌, ◌++◌, drop, length, map, refl, sym, subst, arith, append_assoc}
 use Rattle.std.proofs.lemmas.List.{length-map}
 use Rattle.std.specs.List.{AllByRecursion, filter, list_any}
 use Rattle.std.proofs.lemmas.List.Elements.{All-from_recursion, All-cons, recursion_from_All}
@@ -38,12 +38,14 @@ use Rattle.collect_structure.proofs.placed.Named.{AreAdded, names', old, are-add
 use Rattle.collect_structure.proofs.placed.Made.{formal-placed, pieces}
 use Rattle.collect_structure.proofs.placed.Header.{name-content, header-content}
 use Rattle.collect_structure.proofs.placed.Recorded.{recorder-declared, unit-placed, main-placed, recorder-placed}
-use Rattle.collect_structure.proofs.texts.Listed.{all-behind, all-main, one-bodies}
+use Rattle.collect_structure.proofs.texts.Listed.{all-behind, all-main}
 use Rattle.normal_laws.proofs.structure.numbers.Listed.{IsOneBody}
 use Rattle.collect_structure.proofs.texts.Telling.{IsTelling, told_with, told-bodies}
 use Rattle.collect_structure.proofs.texts.Rooted.{collect-tells}
 use Rattle.collect_model.specs.Recording.{recorder_declared}
 use Rattle.ada_tree.specs.PlainProgram.{PProgram}
+use Rattle.replay_structure.proofs.placed.Declared.{pred-less, IsNoBody, IsObject, bodies-front, filtered-bodies, list-objects, objects-list}
+use Rattle.replay_structure.proofs.checked.Whole.{one-bodies}
 
 -- ---- lists of declarations
 
@@ -57,23 +59,6 @@ module _ (r : Rules) where
   placed-list (decl_then d ds) h = (h.0, placed-list ds h.1)
 
 -- ---- the order of declarations
-
--- it is no body
-abbrev pub IsNoBody : PDecl → Type 0
-IsNoBody d = is_body d ≡ false
-
-pub bodies-front : (xs ys : List PDecl) → AllByRecursion IsNoBody xs → BodiesLast (decls_of ys) → BodiesLast (decls_of (xs ++ ys))
-bodies-front [] ys h i = i
-bodies-front (DTaskBody w objects its s ∷ xs) ys h i = cc
-bodies-front (DTask t s ∷ xs) ys h i = bodies-front xs ys h.1 i
-bodies-front (DNumber w e s ∷ xs) ys h i = bodies-front xs ys h.1 i
-bodies-front (DObject ws c x o s ∷ xs) ys h i = bodies-front xs ys h.1 i
-bodies-front (DEnumeration w ws s ∷ xs) ys h i = bodies-front xs ys h.1 i
-bodies-front (DArray w q x s ∷ xs) ys h i = bodies-front xs ys h.1 i
-bodies-front (DSubtype w x s ∷ xs) ys h i = bodies-front xs ys h.1 i
-bodies-front (DException ws s ∷ xs) ys h i = bodies-front xs ys h.1 i
-bodies-front (DIntIo w s ∷ xs) ys h i = bodies-front xs ys h.1 i
-bodies-front (DPragma e s ∷ xs) ys h i = bodies-front xs ys h.1 i
 
 pub later : (ds : List PDecl) → AllByRecursion IsOneBody ds → AreLater (decls_of ds)
 later [] h = tt
@@ -101,51 +86,7 @@ bodies-last (DException ws s ∷ ds) h = absurd h.0
 bodies-last (DIntIo w s ∷ ds) h = absurd h.0
 bodies-last (DPragma e s ∷ ds) h = absurd h.0
 
--- objects, in a list
-abbrev pub IsObject : PDecl → Type 0
-IsObject (DObject ws c x i s) = Prim.Unit {0}
-IsObject _ = ⊥
-
-pub objects-list : (ds : PDecls) → AreObjects ds → AllByRecursion IsObject (decl_list ds)
-objects-list no_decl h = tt
-objects-list (decl_then (DObject ws c x i s) l) h = (tt, objects-list l h)
-objects-list (decl_then (DNumber w e s) l) h = absurd h
-objects-list (decl_then (DEnumeration w ws s) l) h = absurd h
-objects-list (decl_then (DArray w q x s) l) h = absurd h
-objects-list (decl_then (DSubtype w x s) l) h = absurd h
-objects-list (decl_then (DException ws s) l) h = absurd h
-objects-list (decl_then (DIntIo w s) l) h = absurd h
-objects-list (decl_then (DPragma e s) l) h = absurd h
-objects-list (decl_then (DTask t s) l) h = absurd h
-objects-list (decl_then (DTaskBody w objects its s) l) h = absurd h
-
-pub list-objects : (ds : List PDecl) → AllByRecursion IsObject ds → AreObjects (decls_of ds)
-list-objects [] h = tt
-list-objects (DObject ws c x i s ∷ l) h = list-objects l h.1
-list-objects (DNumber w e s ∷ l) h = absurd h.0
-list-objects (DEnumeration w ws s ∷ l) h = absurd h.0
-list-objects (DArray w q x s ∷ l) h = absurd h.0
-list-objects (DSubtype w x s ∷ l) h = absurd h.0
-list-objects (DException ws s ∷ l) h = absurd h.0
-list-objects (DIntIo w s ∷ l) h = absurd h.0
-list-objects (DPragma e s ∷ l) h = absurd h.0
-list-objects (DTask t s ∷ l) h = absurd h.0
-list-objects (DTaskBody w objects its s ∷ l) h = absurd h.0
-
 -- ---- the first declarations
-
-pub filtered-bodies : (ds : List PDecl) → AllByRecursion IsNoBody (filter (λ d. not (is_task d || is_body d)) ds)
-filtered-bodies [] = tt
-filtered-bodies (DTaskBody w objects its s ∷ ds) = filtered-bodies ds
-filtered-bodies (DTask t s ∷ ds) = filtered-bodies ds
-filtered-bodies (DNumber w e s ∷ ds) = (refl, filtered-bodies ds)
-filtered-bodies (DObject ws c x o s ∷ ds) = (refl, filtered-bodies ds)
-filtered-bodies (DEnumeration w ws s ∷ ds) = (refl, filtered-bodies ds)
-filtered-bodies (DArray w q x s ∷ ds) = (refl, filtered-bodies ds)
-filtered-bodies (DSubtype w x s ∷ ds) = (refl, filtered-bodies ds)
-filtered-bodies (DException ws s ∷ ds) = (refl, filtered-bodies ds)
-filtered-bodies (DIntIo w s ∷ ds) = (refl, filtered-bodies ds)
-filtered-bodies (DPragma e s ∷ ds) = (refl, filtered-bodies ds)
 
 pub main-no-bodies : (n : AddedNames) (s : Span) (instance : Bool) (last : ℕ) → AllByRecursion IsNoBody (main_declared n s instance last)
 main-no-bodies n s instance last = all-main IsNoBody n s instance last (refl, (refl, (refl, (refl, tt))))
@@ -173,10 +114,6 @@ told-order n f tells q more last none one =
     subst (λ ys. BodiesLast (decls_of ys)) (sym (append_assoc (first ++ tasks ++ added) bodies (last ∷ [])))
     (bodies-front (first ++ tasks ++ added) (bodies ++ last ∷ []) front
     (bodies-last (bodies ++ last ∷ []) (all_joined IsOneBody bodies (last ∷ []) (told-bodies n f tells (filter is_body ds) (one-bodies ds)) (one, tt))))
-
-pub pred-less : (n : ℕ) → pred n ≤ n
-pred-less zero = omega arith
-pred-less (suc n) = omega arith
 
 -- ---- each declaration
 

@@ -1,7 +1,6 @@
 -- Each piece of a collecting text is well placed.
-use Rattle.std.proofs.Common.{◌≡◌, ℕ, ◌+◌, ◌*◌, ◌<◌, ◌≤◌, ◌==◌, ◌&&◌, Bool, true, false, List, [], ◌∷◌, length, slice_get, Option, Some, None, option_map, IfSome, unwrap_or, position, All, inl, refl, arith}
+use Rattle.std.proofs.Common.{◌≡◌, ℕ, ◌+◌, ◌*◌, ◌≤◌, ◌==◌, Bool, true, false, List, [], ◌∷◌, length, slice_get, Option, Some, None, IfSome, unwrap_or, position, All, inl, refl, arith}
 use Rattle.std.proofs.lemmas.List.Elements.{All-from_recursion, All-head, All-cons}
-use Rattle.std.proofs.lemmas.List.Quantifiers.{position-Some}
 use Rattle.ada_tree.specs.declared.naming.NameId.{NameId}
 use Rattle.ada_tree.specs.declared.naming.Span.{Span}
 use Rattle.ada_tree.specs.declared.static_types.Kind.{Kind}
@@ -11,7 +10,7 @@ use Rattle.ada_tree.specs.PlainStmt.{PArgs, PCall, PHandlers, no_handler, handle
 use Rattle.ada_tree.specs.Every.{Rules, EveryWord, EveryExpr, EveryExprs, EveryArgs, EveryFormal}
 use Rattle.ada_tree.specs.WellPlaced.{OthersLast, well_placed}
 use Rattle.ada_tree.specs.Lexical.{IsInteger}
-use Rattle.syn_event.specs.Numbering.{Numbering, owner_of}
+use Rattle.syn_event.specs.Numbering.{owner_of}
 use Rattle.task_model.specs.Setting.{Setting, first_expr, lists_in, lists_of, is_family, entry_of}
 use Rattle.normal_model.specs.Ranges.{word_at, kind_of_range, family_range}
 use Rattle.normal_model.specs.Calls.{entry_called, lists_called}
@@ -33,22 +32,7 @@ use Rattle.collect_model.specs.CollectStmts.{collect_rewriter}
 use Rattle.collect_structure.specs.asked.Pieces.{Pieces}
 use Rattle.collect_structure.specs.placed.Placeable.{HasLists, tell_asks}
 use Rattle.collect_structure.proofs.placed.Named.{AreAdded}
-
--- ---- numbers
-
-pub next-few : {A : Type 0} (p : A → Bool) (xs : List A) → unwrap_or (option_map (λ k. k + 1) (position p xs)) 0 ≤ length xs
-next-few {A = A} p xs = by_list xs
-  where
-    go : (ys : List A) (d : A) (o : Option ℕ) → position p ys ≡ o → unwrap_or (option_map (λ k. k + 1) o) 0 ≤ length ys
-    go ys d None e = omega arith
-    go ys d (Some k) e = let l : k < length ys = (position-Some p ys k d e).0 in omega (arith, l)
-
-    by_list : (ys : List A) → unwrap_or (option_map (λ k. k + 1) (position p ys)) 0 ≤ length ys
-    by_list [] = omega arith
-    by_list (y ∷ ys) = go (y ∷ ys) y (position p (y ∷ ys)) refl
-
-pub entry-few : (numbers : Numbering) (t : ℕ) (name : NameId) → entry_of numbers t name ≤ length numbers.entries
-entry-few numbers t name = next-few (λ info. (info.owner == t) && (info.name.0 == name.0)) numbers.entries
+use Rattle.replay_structure.proofs.placed.Made.{entry-few}
 
 -- ---- the pieces
 

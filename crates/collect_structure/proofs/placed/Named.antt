@@ -1,10 +1,9 @@
 -- The names of a collecting text are such as the source can hold.
-use Rattle.std.proofs.Common.{ℕ, ◌<◌, ◌==◌, Bool, true, false, cond, List, [], ◌∷◌, Option, Some, None, IfSome, find, unwrap_or, refl, arith}
+use Rattle.std.proofs.Common.{ℕ, ◌<◌, List, [], ◌∷◌, Option, Some, None, IfSome, refl, arith}
 use Rattle.std.specs.List.{AllByRecursion}
 use Rattle.ada_tree.specs.declared.naming.NameId.{NameId}
 use Rattle.ada_tree.specs.declared.static_types.Mark.{Mark}
 use Rattle.ada_tree.specs.Lexical.{IsIdentifier}
-use Rattle.ada_static_rules.specs.Scope.{and_then}
 use Rattle.task_model.specs.Setting.{Setting}
 use Rattle.normal_model.specs.Names.{id_of}
 use Rattle.normal_model.specs.Ranges.{kind_name}
@@ -15,6 +14,7 @@ use Rattle.collect_model.specs.declared.AddedNames.{AddedNames}
 use Rattle.collect_model.specs.Names.{int_io_text, flags_text, caller_text, answer_text, part_text, recorder_text, note_text, kind_text, subject_text, argument_text, index_text, owner_text, reply_text, gone_text, met_text, collect_names, added_in}
 use Rattle.collect_structure.proofs.texts.Rooted.{collect-begins}
 use Rattle.normal_model.proofs.VariablesLemmas.{Begins}
+use Rattle.replay_structure.proofs.placed.Named.{mark-named}
 
 -- What is known of the names of a collecting text.
 pub record AreAdded (g : Setting) (names : List (List ℕ)) (n : AddedNames) : Type 0 where
@@ -35,20 +35,6 @@ pub record AreAdded (g : Setting) (names : List (List ℕ)) (n : AddedNames) : T
   pub gone : IsName names n.gone
   pub met : IsName names n.met
   pub kinds : (k : ℕ) → IsName names (kind_name g.types k)
-
--- the name of a kind is that of its first mark, or INTEGER
-mark-named : (names : List (List ℕ)) (k : ℕ) (ms : List Mark) → IsName names (record { 0 = 0 }) → AllByRecursion (λ m. IfSome m.name (IsName names)) ms → IsName names (unwrap_or (and_then (λ m. m.name) (find (λ m. m.kind == k) ms)) (record { 0 = 0 }))
-mark-named names k [] first h = first
-mark-named names k (m ∷ ms) first h = by_test (m.kind == k) (mark-named names k ms first h.1)
-  where
-    named : (o : Option NameId) → IfSome o (IsName names) → IsName names (unwrap_or o (record { 0 = 0 }))
-    named None i = first
-    named (Some id) i = i
-
-    by_test : (b : Bool) → IsName names (unwrap_or (and_then (λ m. m.name) (find (λ m. m.kind == k) ms)) (record { 0 = 0 })) →
-        IsName names (unwrap_or (and_then (λ m. m.name) (cond b (Some m) (find (λ m. m.kind == k) ms))) (record { 0 = 0 }))
-    by_test true rest = named m.name h.0
-    by_test false rest = rest
 
 -- Where the names of the normal form stand in front of these.
 module _ (g : Setting) (h : IsReplayPlaceable g) (longer : List (List ℕ)) (begins : Begins g.program.names longer) where

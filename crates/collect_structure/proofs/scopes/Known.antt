@@ -59,7 +59,7 @@ use Rattle.collect_structure.specs.scopes.Language.{KnowsLanguage}
 use Rattle.collect_structure.specs.scopes.Form.{AreNamesNew, IsNewName, DeclaresNew, SeesNoType, IsVariableTold, IsTaskTold}
 use Rattle.collect_structure.proofs.checked.Names.{kept-other}
 use Rattle.collect_structure.proofs.kept.Names.{own-kept, kept-keeping}
-use Rattle.collect_structure.proofs.kept.Main.{first-kept}
+use Rattle.replay_structure.proofs.legal.Kept.{first-kept}
 use Rattle.collect_structure.proofs.legal.Listed.{main-variables-added}
 use Rattle.collect_structure.proofs.scopes.Language.{name-kept, language-on, language-decls}
 use Rattle.collect_structure.proofs.scopes.Types.{decls-no-type, first-no-type}

@@ -1,10 +1,7 @@
 -- All names in the normal form of a legal program are kept in its collecting text, and its lists have as many parts as the grammar asks.
 use Rattle.std.proofs.Common.{ℕ, Bool}
-use Rattle.std.specs.List.{AllByRecursion}
-use Rattle.ada_tree.specs.PlainDecl.{PDecls, no_decl, decl_then}
 use Rattle.ada_tree.specs.PlainProgram.{PProgram}
-use Rattle.ada_tree.specs.Every.{Rules, EveryDecl, EveryDecls, EveryProgram}
-use Rattle.syn_event.specs.DeclaredTasks.{decl_list}
+use Rattle.ada_tree.specs.Every.{EveryProgram}
 use Rattle.normal_laws.specs.structure.checked.Around.{own_rules}
 use Rattle.normal_laws.proofs.structure.checked.Owned.{own-together}
 use Rattle.normal_laws.specs.runs.forms.Normalisable.{made_for}
@@ -13,12 +10,9 @@ use Rattle.normal_laws.proofs.legality.checks.Facts as facts
 use Rattle.replay_structure.proofs.checkable.Kept.{rules_of}
 use Rattle.collect_structure.specs.Names.{kept_name}
 use Rattle.collect_structure.proofs.kept.Names.{own-kept, kept-keeping}
-use Rattle.collect_structure.proofs.kept.Main.{main-kept}
-use Rattle.collect_structure.proofs.kept.Declared.{declarations-kept}
-
-pub every-unlisted : (rules : Rules) (ds : PDecls) → AllByRecursion (EveryDecl rules) (decl_list ds) → EveryDecls rules ds
-every-unlisted rules no_decl h = tt
-every-unlisted rules (decl_then d ds) h = (h.0, every-unlisted rules ds h.1)
+use Rattle.replay_structure.proofs.legal.Kept.{main-kept}
+use Rattle.replay_structure.proofs.legal.Declared.{declarations-kept}
+use Rattle.replay_structure.proofs.legal.names.form_names.Owned.{every-unlisted}
 
 module _ (p : PProgram) (h : IsLegalOriginal p) where
   abbrev q : PProgram

@@ -11,7 +11,7 @@ use Rattle.ada_tree.specs.Every.{EveryDrange, EveryFormal, EveryEntry, EveryPrio
 use Rattle.ada_static_rules.specs.Scope.{Scope, integer_kind}
 use Rattle.ada_static_rules.specs.Demand.{scalar_only}
 use Rattle.ada_static_rules.specs.Declaring.{inner_scope}
-use Rattle.ada_static_rules.specs.Sites.{if_there, names_sites, entry_sites, all_names, static_of, drange_sites, formal_mark_sites, formals_sites, entries_sites, decl_sites}
+use Rattle.ada_static_rules.specs.Sites.{if_there, names_sites, all_names, static_of, drange_sites, formal_mark_sites, formals_sites, entries_sites, decl_sites}
 use Rattle.normal_laws.specs.structure.checked.Around.{own_rules}
 use Rattle.task_laws.specs.legal.alike_scopes.Alike.{SameNames}
 use Rattle.task_laws.specs.legal.alike_scopes.Laws.{IsMetBut}
@@ -19,20 +19,11 @@ use Rattle.normal_laws.specs.structure.typed.ScopeOf.{MeansInteger}
 use Rattle.normal_laws.proofs.structure.typed.Variables.{AllMetBut, words-met}
 use Rattle.normal_laws.proofs.structure.typed.Stays.{old-expr, old-drange, old-formals, static-stays, drange-stays, formals-stay}
 use Rattle.replay_structure.proofs.typed.Control.{integer-mark}
-use Rattle.replay_structure.proofs.typed.Declared.{IsMetEntry, entries-met}
+use Rattle.replay_structure.proofs.typed.Declared.{IsMetEntry, entries-met, entries-told as each-entry}
 use Rattle.collect_model.specs.declared.AddedNames.{AddedNames}
 use Rattle.collect_model.specs.Serving.{caller_formal}
 use Rattle.collect_model.specs.CollectTree.{entry_telling, task_telling}
 use Rattle.replay_structure.proofs.typed.Typed.{same}
-
--- what is asked of each entry, from the places of all
-each-entry : (c : Scope) (es : List PEntry) (names : List ℕ) → AllMetBut (entries_sites c names es) → AllByRecursion (IsMetEntry c) es
-each-entry c [] names h = tt
-each-entry c (e ∷ es) names h = (
-  (all_front IsMetBut (entry_sites c names e) (entries_sites c (e.name.name.0 ∷ names) es) h).1,
-  each-entry c es (e.name.name.0 ∷ names)
-      (all_back IsMetBut (entry_sites c names e) (entries_sites c (e.name.name.0 ∷ names) es) h),
-)
 
 module _ (n : AddedNames) (old : ℕ → Bool) (c d : Scope) (names : SameNames old c d) (int : MeansInteger d) where
   -- the formal of the caller in front of others

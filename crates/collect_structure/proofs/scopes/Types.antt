@@ -1,37 +1,25 @@
 -- Where no task type is declared no name means one; so the variables of main are the same in both texts.
-use Rattle.std.proofs.Common.{◌≡◌, ℕ, ◌==◌, Bool, true, false, if◌then◌else◌, pos, ◌-ℤ◌, List, [], ◌∷◌, length, map, Option, Some, None, refl, sym, ap, subst, ◌∙◌, true≢false}
+use Rattle.std.proofs.Common.{◌≡◌, ℕ, ◌==◌, Bool, true, false, if◌then◌else◌, pos, ◌-ℤ◌, List, [], ◌∷◌, length, map, Option, Some, None, refl, sym, ap, ◌∙◌, true≢false}
 use Rattle.std.specs.List.{AllByRecursion}
 use Rattle.common_lemmas.proofs.Truth.{clash}
 use Rattle.ada_tree.specs.declared.naming.Word.{Word}
-use Rattle.ada_tree.specs.declared.static_types.Kind.{Kind}
-use Rattle.ada_tree.specs.declared.static_types.Kind.TheVariants.{Integer, Truth, Enumeration, Array}
-use Rattle.ada_tree.specs.declared.static_types.Mark.{Mark}
+use Rattle.ada_tree.specs.declared.static_types.Kind.TheVariants.{Enumeration}
 use Rattle.ada_tree.specs.TypeTable.{TypeTable}
 use Rattle.ada_tree.specs.PlainExpr.{PSubind}
 use Rattle.ada_tree.specs.PlainDecl.{PShape, OPlain, OArray, PDecl, DNumber, DObject, DEnumeration, DArray, DSubtype, DException, DIntIo, DPragma, DTask, DTaskBody, decls_of}
-use Rattle.ada_static_rules.specs.Scope.{Scope, Range, Thing, TypeMark, TaskType, SingleTask, TaskObject, TaskArray, Variable, ConstantObject, Parameter, LoopParameter, Literal, AnException, MainProcedure, AnotherUnit, Unclear, EntryPart, Marking, ScalarMark, ArrayMark, TaskMark, NoMark, UnknownMark, UnclearMark, marking, marking_of, marking_of_mark, marking_of_kind, kind_at, mark_at, meaning}
-use Rattle.ada_static_rules.specs.Declaring.{with_name, with_names, with_types, add_mark, add_kind, type_of_mark, object_meaning, task_object, task_array, Made, made_subind, made_array, made_named_array, made_subtype, drange_range, of_made, plain_object, array_object, Declared, declared_object, with_constants, entry_part, task_thing, first_scope, after_decl, after_decls}
+use Rattle.ada_static_rules.specs.Scope.{Scope, Range, Thing, TypeMark, TaskType, SingleTask, TaskObject, TaskArray, Variable, ConstantObject, Parameter, LoopParameter, Literal, AnException, MainProcedure, AnotherUnit, Unclear, EntryPart, Marking, ScalarMark, ArrayMark, TaskMark, NoMark, UnknownMark, UnclearMark, marking, marking_of, mark_at, meaning}
+use Rattle.ada_static_rules.specs.Declaring.{with_name, with_names, with_types, add_mark, add_kind, type_of_mark, object_meaning, task_object, task_array, Made, made_subind, made_array, made_named_array, made_subtype, drange_range, of_made, plain_object, array_object, declared_object, with_constants, entry_part, task_thing, first_scope, after_decl, after_decls}
 use Rattle.task_laws.specs.legal.rewritten_types.Rewriting.{is_no_task}
 use Rattle.task_laws.specs.legal.alike_scopes.Alike.{SameMark, of_values, of_arrays, SameThing, same_variable, same_unclear, SameNames}
 use Rattle.task_laws.specs.legal.alike_scopes.Old.{IsOldSubind}
 use Rattle.task_laws.proofs.legal.alike_scopes.Examples.{meant}
 use Rattle.task_laws.proofs.legal.alike_scopes.Exprs.{mark-same}
 use Rattle.task_laws.proofs.legal.alike_scopes.Readings.{IsNoMark, is_task_mark, is_no_mark, is_unknown_mark, SameMarking, both_scalars, both_arrays, both_no_marks, both_unclear_marks}
-use Rattle.task_laws.proofs.legal.alike_scopes.Objects.{SameMade, made_both, made_neither, made-same, SameDeclared}
+use Rattle.task_laws.proofs.legal.alike_scopes.Objects.{SameMade, made_both, made_neither, made-same, SameDeclared, both-declared}
 use Rattle.normal_laws.specs.structure.numbers.Single.{IsSingle}
 use Rattle.normal_laws.proofs.structure.typed.Scopes.{meaning-more}
 use Rattle.collect_structure.specs.scopes.Form.{is_task_type, SeesNoType}
-
-kind-no-task : (m k : ℕ) (o : Option Kind) → is_no_task (marking_of_kind m k o) ≡ true
-kind-no-task m k None = refl
-kind-no-task m k (Some Integer) = refl
-kind-no-task m k (Some Truth) = refl
-kind-no-task m k (Some (Enumeration ids)) = refl
-kind-no-task m k (Some (Array index first last part)) = refl
-
-mark-no-task : (T : TypeTable) (m : ℕ) (o : Option Mark) → is_no_task (marking_of_mark T m o) ≡ true
-mark-no-task T m None = refl
-mark-no-task T m (Some x) = kind-no-task m x.kind (kind_at T x.kind)
+use Rattle.task_laws.proofs.legal.rewritten_types.Staying.{mark-no-task}
 
 -- so none stands as a mark
 pub no-task : (T : TypeTable) (o : Option Thing) → is_task_type o ≡ false → is_no_task (marking_of T o) ≡ true
@@ -143,9 +131,6 @@ first-no-type name id =
     (refl, (refl, (refl, (refl, (refl, (refl, (refl, (refl, (refl, (refl, (refl, (refl, (refl, (refl, (refl, (refl, (refl, (refl, (refl, tt)))))))))))))))))))
 
 -- ---- variables of main
-
-both-declared : (a b a' b' : Declared) → SameDeclared a' b' → a ≡ a' → b ≡ b' → SameDeclared a b
-both-declared a b a' b' h e f = subst (λ x. SameDeclared x b) (sym e) (subst (SameDeclared a') (sym f) h)
 
 of-mark : (T U : TypeTable) (o p : Option ℕ) (m n : ℕ) → o ≡ Some m → p ≡ Some n → SameMark T U m n → SameThing T U (Some (object_meaning false o)) (Some (object_meaning false p))
 of-mark T U o p m n e f h = same_variable m n (ap (λ x. Some (object_meaning false x)) e) (ap (λ x. Some (object_meaning false x)) f) h

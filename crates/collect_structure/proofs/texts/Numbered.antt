@@ -7,7 +7,6 @@ use Rattle.std.proofs.lemmas.Bool.Decides.{nat_tests}
 use Rattle.std.proofs.lemmas.List.{map-append, length-map}
 use Rattle.std.proofs.lemmas.Slice.Eq.{bytes_eq-Decides}
 use Rattle.common_lemmas.proofs.Lists.{all_joined, all_weaker}
-use Rattle.ada_tree.specs.declared.naming.NameId.{NameId}
 use Rattle.ada_tree.specs.TypeTable.{TypeTable}
 use Rattle.ada_tree.specs.PlainDecl.{PEntry, PTask, PDecl, decls_of}
 use Rattle.ada_tree.specs.PlainProgram.{PProgram}
@@ -48,11 +47,9 @@ use Rattle.collect_structure.proofs.texts.Rooted.{collect-begins, collect-has, t
 use Rattle.ada_tree.specs.PlainStmt.{PBody}
 use Rattle.collect_model.specs.declared.AddedNames.{AddedNames}
 use Rattle.collect_structure.proofs.texts.Telling.{IsTelling, recorder_tasks}
+use Rattle.replay_structure.proofs.texts.Numbered.{info-longer}
 
 -- ---- tasks
-
-info-longer : (before names : List (List ℕ)) (id : NameId) → Begins before names → id.0 < length before → task_info names id ≡ task_info before id
-info-longer before names id b within = ap (λ a. record { name = id; added = a; unit = id; member = None }) (added-longer before names id b within)
 
 -- the numbers of tasks whose names stand in front
 infos-longer : (n : AddedNames) (before names : List (List ℕ)) → Begins before names → (under : NumberedTask → PTask) (ys : List NumberedTask) →

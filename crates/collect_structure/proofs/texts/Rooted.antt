@@ -1,11 +1,10 @@
 -- The tables of a program and of its collecting text.
-use Rattle.std.proofs.Common.{◌≡◌, ℕ, ◌==◌, Bool, true, false, List, [], ◌∷◌, ◌++◌, map, refl, sym, ap, ◌∙◌, subst, append_assoc, arith}
+use Rattle.std.proofs.Common.{◌≡◌, ℕ, ◌==◌, Bool, true, false, List, [], ◌∷◌, ◌++◌, map, refl, sym, ap, ◌∙◌, subst}
 use Rattle.std.specs.List.{AllByRecursion, list_any}
 use Rattle.std.proofs.lemmas.Bool.{eqb-true}
 use Rattle.ada_tree.specs.TypeTable.{TypeTable}
-use Rattle.ada_tree.specs.PlainDecl.{PDecl, DNumber, DObject, DEnumeration, DArray, DSubtype, DException, DIntIo, DPragma, DTask, DTaskBody, PDecls, no_decl, decl_then, decls_of, PTask}
+use Rattle.ada_tree.specs.PlainDecl.{PDecl, DTask, DTaskBody, PDecls, decls_of, PTask}
 use Rattle.ada_tree.specs.PlainProgram.{PProgram}
-use Rattle.ada_tree.specs.Every.{EveryDecl, EveryDecls}
 use Rattle.ada_static_rules.specs.Scope.{Scope}
 use Rattle.ada_static_rules.specs.Declaring.{first_scope, after_decls}
 use Rattle.ada_static_rules.specs.Refusals.{types_in}
@@ -26,10 +25,10 @@ use Rattle.normal_laws.proofs.structure.types.Names.{fold-begins, added_names_ar
 use Rattle.normal_laws.proofs.structure.types.Variables.{are-added, unit-new}
 use Rattle.normal_laws.proofs.structure.types.Fronts.{first_decls_are_front}
 use Rattle.normal_laws.proofs.structure.types.Normal.{front-after, first-every}
-use Rattle.normal_laws.proofs.structure.numbers.Named.{text-there, Has, has-folded, added-longer, IsReserved, reserved-new, own-within, own-not-added}
+use Rattle.normal_laws.proofs.structure.numbers.Named.{text-there, Has, has-folded, IsReserved, reserved-new}
 use Rattle.normal_laws.proofs.structure.numbers.Listed.{firsts, vars, tasks, bodies, IsPlain, IsOneBody, tasks-all, bodies-all}
 use Rattle.normal_laws.proofs.structure.numbers.TaskNames.{normal-begins}
-use Rattle.replay_model.specs.ReplayTree.{is_added_object, last_task, normal_setting}
+use Rattle.replay_model.specs.ReplayTree.{last_task, normal_setting}
 use Rattle.replay_structure.proofs.texts.Listed.{normal-plain, normal-tasks, normal-bodies}
 use Rattle.collect_model.specs.Names.{flags_text, answer_text, part_text, added_texts, with_added, collect_names}
 use Rattle.collect_model.specs.Teller.{Teller, teller_in}
@@ -43,6 +42,7 @@ use Rattle.ada_tree.specs.PlainStmt.{PBody}
 use Rattle.collect_model.specs.declared.AddedNames.{AddedNames}
 use Rattle.collect_model.specs.Recording.{recorder_declared}
 use Rattle.collect_structure.proofs.texts.Telling.{IsTelling, told_with, recorder_tasks, all-told, text-tasks}
+use Rattle.replay_structure.proofs.texts.Rooted.{append_assoc4, own-objects}
 
 -- ---- names
 
@@ -94,32 +94,6 @@ objects-plain x q objects h = all-behind IsPlain q.names _ objects (main-plain x
 pub collect-tasks : (x : Teller) (q : PProgram) → tasks_in (collect_decls x q (decl_list q.decls)) ≡ map (task_telling x.added) (tasks_of q) ++ recorder_tasks x.added q
 collect-tasks x q =
     text-tasks x.added (collect_decl x q.names) (collect-tells x q.names) q _ (recorder_body_told x q) (main-plain x.added q.name.span _ (last_task x.numbers)) tt
-
--- an object that has an own name first is no variable of the normal form
-pub own-object : (p : PProgram) (names : List (List ℕ)) (d : PDecl) → Begins p.names names → EveryDecl (old_names (own_name p)) d → is_added_object names d ≡ false
-own-object p names (DObject [] c x i s) b h = refl
-own-object p names (DObject (w ∷ ws) c x i s) b h =
-    let own : own_name p w.name.0 ≡ true = h.1.1 0 w (omega arith) in
-    added-longer p.names names w.name b (own-within p w.name.0 own) ∙ own-not-added p w.name own
-own-object p names (DTask t s) b h = refl
-own-object p names (DTaskBody w objects its s) b h = refl
-own-object p names (DNumber w e s) b h = refl
-own-object p names (DEnumeration w ws s) b h = refl
-own-object p names (DArray w r x s) b h = refl
-own-object p names (DSubtype w x s) b h = refl
-own-object p names (DException ws s) b h = refl
-own-object p names (DIntIo w s) b h = refl
-own-object p names (DPragma e s) b h = refl
-
-pub own-objects : (p : PProgram) (names : List (List ℕ)) (ds : PDecls) → Begins p.names names → EveryDecls (old_names (own_name p)) ds → AllByRecursion (λ d. is_added_object names d ≡ false) (decl_list ds)
-own-objects p names no_decl b h = tt
-own-objects p names (decl_then d ds) b h = (own-object p names d b h.0, own-objects p names ds b h.1)
-
--- lists one behind the other, and one in front
-pub append_assoc4 : (x a b c d e : List PDecl) → x ++ a ++ b ++ c ++ d ++ e ≡ x ++ (a ++ b ++ c ++ d ++ e)
-append_assoc4 x a b c d e =
-    ap (λ l. l ++ e) (ap (λ l. l ++ d) (ap (λ l. l ++ c) (append_assoc x a b) ∙ append_assoc x (a ++ b) c) ∙ append_assoc x (a ++ b ++ c) d)
-    ∙ append_assoc x (a ++ b ++ c ++ d) e
 
 -- The tables of a program and of a text that is told.
 module _ (p : PProgram) (types : TypeTable) (numbers : Numbering) (own : AreOwn p p.decls)

@@ -12,11 +12,11 @@ use Rattle.syn_event.specs.DeclaredTasks.{decl_list, tasks_in, tasks_of}
 use Rattle.syn_event.proofs.DeclLists.{tasks_joined}
 use Rattle.normal_laws.proofs.structure.numbers.Listed.{IsPlain, IsOneTask, IsOneBody}
 use Rattle.replay_model.specs.ReplayTree.{is_task, is_body}
-use Rattle.replay_structure.proofs.texts.Listed.{sorted-plain, plain-tasks}
+use Rattle.replay_structure.proofs.texts.Listed.{sorted-plain, plain-tasks, sorted-bodies, sorted-tasks}
 use Rattle.collect_model.specs.declared.AddedNames.{AddedNames}
 use Rattle.collect_model.specs.Recording.{recorder_declared}
 use Rattle.collect_model.specs.CollectTree.{behind_own, task_telling}
-use Rattle.collect_structure.proofs.texts.Listed.{all-behind, sorted-tasks, sorted-bodies}
+use Rattle.collect_structure.proofs.texts.Listed.{all-behind}
 use Rattle.normal_laws.proofs.legality.declares_once.Bodies.{body_ids}
 use Rattle.replay_structure.proofs.declares_once.Units.{body_words}
 

@@ -1,5 +1,5 @@
 -- Calls with the own task's number in front of their actuals meet the rules in a collecting text.
-use Rattle.std.proofs.Common.{◌≡◌, ℕ, suc, ◌==◌, Bool, true, false, not, ◌&&◌, if◌then◌else◌, List, [], ◌∷◌, length, map, flat_map, option_map, unwrap_or, is_none, Option, Some, None, is_some, IfSome, refl, sym, ap, subst, ◌∙◌, true≢false, eqb-true, eq-eqb, arith}
+use Rattle.std.proofs.Common.{◌≡◌, ℕ, suc, ◌==◌, Bool, true, false, not, ◌&&◌, if◌then◌else◌, List, [], ◌∷◌, length, map, flat_map, option_map, unwrap_or, is_none, Option, Some, None, IfSome, refl, sym, ap, subst, ◌∙◌, true≢false, eqb-true, eq-eqb, arith}
 use Rattle.common_lemmas.proofs.Lists.{all_back, all_front, all_joined}
 use Rattle.common_lemmas.proofs.Numbers.{unequal}
 use Rattle.common_lemmas.proofs.Truth.{and_both, both_true}
@@ -10,7 +10,7 @@ use Rattle.ada_tree.specs.PlainStmt.{PCallee, PArgs, PCall}
 use Rattle.ada_tree.specs.PlainProgram.{PProgram}
 use Rattle.ada_static_rules.specs.Scope.{Scope, FormalPart, Range, Family, single, family, unclear, EntryPart, integer_kind, meaning, entry_named}
 use Rattle.ada_static_rules.specs.Demand.{Site}
-use Rattle.ada_static_rules.specs.RuleArgCount.{at_place, index_of_callee, fits_single, fits_family, fits_call, wrong_call, called_entry}
+use Rattle.ada_static_rules.specs.RuleArgCount.{index_of_callee, fits_single, fits_family, fits_call, wrong_call, called_entry}
 use Rattle.ada_static_rules.specs.RuleUnknown.{unknown_entry}
 use Rattle.ada_static_rules.specs.Sites.{if_there, expr_sites, expr_of, callee_sites, actuals_sites, args_sites}
 use Rattle.task_model.specs.Setting.{Setting, is_family, first_expr, lists_in, lists_of}
@@ -21,7 +21,7 @@ use Rattle.normal_laws.proofs.structure.typed.Calls.{fits-told, entry-there, as_
 use Rattle.normal_laws.proofs.structure.typed.Variables.{AllMetBut}
 use Rattle.replay_model.specs.Asking.{member_number}
 use Rattle.replay_structure.specs.typed.ScopeOf.{HasLists, IsFamilyOf, IsEntryOf, IsSingle}
-use Rattle.replay_structure.proofs.typed.Calls.{AreOldArgs, listed, listed-call}
+use Rattle.replay_structure.proofs.typed.Calls.{AreOldArgs, listed, listed-call, no-index}
 use Rattle.replay_structure.proofs.typed.Permits.{member-fit}
 use Rattle.replay_structure.proofs.typed.Tests.{IsFit, fit-of, literal-fit}
 use Rattle.collect_model.specs.Names.{caller_text, collect_names, added_in}
@@ -106,10 +106,6 @@ module _ (g : Setting) (inner : ℕ → Bool) (q : PProgram) (d : Scope) (e : �
   lists-more unclear i args n h m = absurd i
 
 -- ---- calls of a unit
-
-no-index : (d : Scope) (o : Option PExpr) (s : Span) → at_place (is_some o) s ≡ [] → AllMetBut (if_there (expr_sites d) o)
-no-index d None s e = tt
-no-index d (Some x) s e = cc
 
 module _ (g : Setting) (task : ℕ) (old inner : ℕ → Bool) (c d : Scope) (rel : IsToldScope (record { setting = g; task = task }) old inner c d) where
   abbrev q : PProgram

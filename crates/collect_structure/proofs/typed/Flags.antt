@@ -28,8 +28,9 @@ use Rattle.replay_structure.proofs.typed.Tests.{IsFit}
 use Rattle.collect_model.specs.Recording.{flag_of, flag_set, flags_declared, truth}
 use Rattle.collect_model.specs.declared.AddedNames.{AddedNames}
 use Rattle.collect_structure.proofs.typed.Added.{name-means}
-use Rattle.collect_structure.proofs.typed.Truths.{form-met, no-constant, truth-fixed, value-met}
+use Rattle.collect_structure.proofs.typed.Truths.{form-met, truth-fixed, value-met}
 use Rattle.collect_structure.specs.typed.Recording.{AreFlags, ArePredefined, IsFlagsType, IsInNumber, IsOutTruth, truth_values}
+use Rattle.task_laws.proofs.legal.rewritten_types.Moving.{no_constants as no-constant}
 
 -- ---- what stays
 

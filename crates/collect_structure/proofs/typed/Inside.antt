@@ -1,5 +1,5 @@
 -- What can be used at a place of a unit in a collecting text can be used in an accept and in a loop there.
-use Rattle.std.proofs.Common.{◌≡◌, ℕ, ◌==◌, Bool, true, false, ◌||◌, if◌then◌else◌, List, [], ◌∷◌, map, Option, Some, None, IfSome, unwrap_or, ◌⊎◌, inl, inr, refl, sym, ap, ap₂, subst, ◌∙◌, true≢false, eqb-true}
+use Rattle.std.proofs.Common.{◌≡◌, ℕ, ◌==◌, Bool, true, false, ◌||◌, if◌then◌else◌, List, ◌∷◌, map, Option, Some, None, IfSome, unwrap_or, ◌⊎◌, inl, inr, refl, sym, ap, ap₂, subst, ◌∙◌, true≢false, eqb-true}
 use Rattle.std.proofs.lemmas.Bool.{or_from, or_left, or_parts}
 use Rattle.std.proofs.lemmas.List.Elements.{recursion_from_All}
 use Rattle.common_lemmas.proofs.Lists.{all_weaker}
@@ -8,12 +8,12 @@ use Rattle.ada_tree.specs.declared.naming.Word.{Word}
 use Rattle.ada_tree.specs.declared.naming.Span.{Span}
 use Rattle.ada_tree.specs.declared.statements.ParMode.TheVariants.{Take}
 use Rattle.ada_tree.specs.TypeTable.{TypeTable}
-use Rattle.ada_tree.specs.PlainStmt.{PFormal, PScheme, LWhile, LFor, PHead}
+use Rattle.ada_tree.specs.PlainStmt.{PScheme, LWhile, LFor, PHead}
 use Rattle.ada_tree.specs.PlainProgram.{PProgram}
 use Rattle.ada_tree.specs.Every.{EveryFormal, EveryHead, EveryScheme}
 use Rattle.ada_static_rules.specs.Scope.{Scope, Family, single, family, unclear, EntryPart, Thing, SingleTask, meaning, marking, marking_of, scalar_kind, mark_at, and_then, entry_named}
 use Rattle.ada_static_rules.specs.StaticValue.{value_named}
-use Rattle.ada_static_rules.specs.Declaring.{with_name, with_names, inner_scope, formal_thing, with_formals, first_mark_of, drange_kind, loop_thing, with_loop_parameter}
+use Rattle.ada_static_rules.specs.Declaring.{with_name, inner_scope, formal_thing, with_formals, first_mark_of, drange_kind, loop_thing, with_loop_parameter}
 use Rattle.ada_static_rules.specs.Sites.{all_names, loop_scope}
 use Rattle.ada_static_rules.specs.RuleArgCount.{called_entry}
 use Rattle.syn_event.specs.Numbering.{task_named}
@@ -33,14 +33,8 @@ use Rattle.collect_model.specs.Serving.{caller_formal}
 use Rattle.collect_structure.specs.Names.{added_id}
 use Rattle.collect_structure.specs.typed.Told.{told_entry, IsRecorder, IsTruth, AreOuter, IsToldScope}
 use Rattle.collect_structure.proofs.typed.Scopes.{IsStep, two-steps, one-step, formals-step, inside-names, formals-names, loop-names, name-more}
-use Rattle.task_laws.proofs.legal.rewritten_types.Adding.{names-main}
 use Rattle.ada_static_rules.proofs.found_twice.Declared.{formals_own}
-
--- ---- what names leave as it is
-
-formals-main : (fs : List PFormal) (s : Scope) → (with_formals s fs).in_main ≡ s.in_main
-formals-main [] s = refl
-formals-main (f ∷ fs) s = formals-main fs (with_names (formal_thing f.mode (marking s f.mark.name)) s f.names) ∙ names-main (formal_thing f.mode (marking s f.mark.name)) f.names s
+use Rattle.task_laws.proofs.legal.alike_scopes.Inner.{formals-main}
 
 -- ---- names that are declared inside
 

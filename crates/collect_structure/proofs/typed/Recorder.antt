@@ -1,6 +1,6 @@
 -- The body of a collecting text's recorder meets the static rules 1 and 3 to 12.
-use Rattle.std.proofs.Common.{Bool, List, None, Some, [], ap, eq-eqb, eqb-true, false, length, refl, subst, sym, take, true, true≢false, ℕ, ◌&&◌, ◌++◌, ◌==◌, ◌||◌, ◌∙◌, ◌∷◌, ◌≡◌}
-use Rattle.std.specs.List.{AllByRecursion, list_any}
+use Rattle.std.proofs.Common.{Bool, List, None, Some, [], ap, eq-eqb, eqb-true, false, length, refl, subst, sym, take, true, true≢false, ℕ, ◌&&◌, ◌++◌, ◌==◌, ◌∙◌, ◌∷◌, ◌≡◌}
+use Rattle.std.specs.List.{AllByRecursion}
 use Rattle.common_lemmas.proofs.Lists.{all_joined}
 use Rattle.ada_tree.specs.NameList.{predefined}
 use Rattle.ada_tree.specs.PlainDecl.{PDecls, decls_of}
@@ -18,7 +18,7 @@ use Rattle.ada_static_rules.specs.Scope.{Parameter, Scope, Thing, Variable, entr
 use Rattle.ada_static_rules.specs.Sites.{accept_sites, body_sites, decl_sites, head_sites, own_object_sites, own_sites, stmt_sites, stmts_sites}
 use Rattle.task_laws.proofs.legal.alike_scopes.Marks.{values-reading}
 use Rattle.task_laws.proofs.legal.rewritten_types.Keeping.{grows-self, keeps-self}
-use Rattle.task_laws.proofs.legal.types.GoodScopes.{IsIn, names-kept, names-new}
+use Rattle.task_laws.proofs.legal.types.GoodScopes.{IsIn, names-kept, names-new, in-later as in-behind}
 use Rattle.task_laws.specs.legal.alike_scopes.Laws.{IsMetBut}
 use Rattle.task_laws.specs.legal.rewritten_types.Agreement.{IsScalar}
 use Rattle.normal_model.specs.Making.{one}
@@ -41,21 +41,11 @@ use Rattle.collect_structure.proofs.typed.Truths.{truth-marked, truth-range}
 use Rattle.collect_structure.specs.Names.{added_id, new_texts}
 use Rattle.collect_structure.specs.typed.Recording.{AreFlags, ArePredefined, IsFlagsType, IsInNumber, IsOutTruth, IsRecording, integer_values, truth_values}
 use Rattle.collect_structure.specs.typed.Told.{note_parts}
+use Rattle.normal_laws.proofs.legality.scopes.Kept.{word-in as in-front}
 
 -- names of six formals, none of which is this
 abbrev pub AreOther : List Word → NameId → Type 0
 AreOther ws id = AllByRecursion (λ (w : Word). (w.name.0 == id.0) ≡ false) ws
-
--- a word is among words, in front or behind
-pub in-front : (w : Word) (ws : List Word) → IsIn (w ∷ ws) w.name
-in-front w ws = ap (λ b. b || list_any (λ (x : Word). x.name.0 == w.name.0) ws) (eq-eqb w.name.0 w.name.0 refl)
-
-pub in-behind : (w : Word) (ws : List Word) (id : NameId) → IsIn ws id → IsIn (w ∷ ws) id
-in-behind w ws id h = by_test (w.name.0 == id.0)
-  where
-    by_test : (b : Bool) → (b || list_any (λ (x : Word). x.name.0 == id.0) ws) ≡ true
-    by_test true = refl
-    by_test false = h
 
 -- nothing is refused at places, and at none behind them
 pub behind-none : (xs : List Site) → AllMetBut xs → AllMetBut (xs ++ [])

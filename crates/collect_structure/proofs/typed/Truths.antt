@@ -4,7 +4,6 @@ use Rattle.common_lemmas.proofs.Lists.{all_joined}
 use Rattle.ada_tree.specs.Attributes.{false_name, true_name}
 use Rattle.ada_tree.specs.PlainDecl.{DObject, IOne, OPlain, PDecl, PInit, PShape}
 use Rattle.ada_tree.specs.PlainExpr.{PExpr}
-use Rattle.ada_tree.specs.TypeTable.{TypeTable}
 use Rattle.ada_tree.specs.declared.naming.Span.{Span}
 use Rattle.ada_tree.specs.declared.naming.Word.{Word}
 use Rattle.ada_tree.specs.declared.static_types.Mark.{Mark}
@@ -22,6 +21,7 @@ use Rattle.normal_laws.proofs.structure.typed.Literals.{IsFixedAt, name-fixed}
 use Rattle.normal_laws.proofs.structure.typed.Variables.{AllMetBut, words-met}
 use Rattle.collect_model.specs.Recording.{truth}
 use Rattle.collect_structure.specs.typed.Recording.{ArePredefined, MeansTruth, truth_values}
+use Rattle.task_laws.proofs.legal.rewritten_types.Moving.{no_constants as no-constant}
 
 -- ---- BOOLEAN
 
@@ -88,11 +88,6 @@ form-met d what value e = record {
 }
 
 -- ---- a variable with a scalar mark and a value
-
--- a variable adds no constant, in main or elsewhere
-pub no-constant : (b : Bool) (x : TypeTable) → (if b then x else x) ≡ x
-no-constant true x = refl
-no-constant false x = refl
 
 module _ (d : Scope) (mark : Word) (m : ℕ) (range : Range) (marked : marking d mark.name ≡ ScalarMark m range.kind) (same : marking_of_mark d.types m (mark_at d.types m) ≡ ScalarMark m range.kind)
     (ranged : range_of_mark d.types m ≡ Some range) (stands : (allowed : MarkUse) → IsMetBut (site d (stands_as_mark allowed mark))) (w : Word) (e : PExpr) (s : Span) where

@@ -1,7 +1,6 @@
 -- The events that the file of the run is read as are those that were recorded, or these are more than a file may have.
 use Rattle.std.proofs.Common.{◌≡◌, ◌≢◌, ◌<◌, ◌≤◌, ℕ, Bool, true, false, nat_lt, List, length, map, inr, lit<, refl, sym, subst, arith}
 use Rattle.std.proofs.lemmas.List.FromFn.{length-map-range_with_len}
-use Rattle.std.proofs.lemmas.Bool.Decides.{nat_tests}
 use Rattle.common_lemmas.proofs.Numbers.{lt_is}
 use Rattle.event_machine.specs.declared.Event.{Event}
 use Rattle.syn_event.specs.DeclaredTasks.{text_of}
@@ -21,10 +20,7 @@ use Rattle.debug_outcome.specs.files.Wanting.{sequence_limit}
 use Rattle.debug_outcome.specs.sequences.BadSequences.{refusal_of_sequence}
 use Rattle.debug_collect.specs.loads.LoadOutcomes.{IsCollected, LoadMeans, collected_file}
 use Rattle.debug_collect.proofs.loads.ManyEvents.{too_many_events}
-
--- a number that is not above another one
-at_most : (a b : ℕ) → nat_lt a b ≡ false → b ≤ a
-at_most a b h = grind (arith, nat_tests)
+use Rattle.replay_structure.proofs.spots.Sorted.{not-less as at_most}
 
 module _ (n : ℕ) (few : n ≤ most_producers) where
   pub load_is_short : IsShort (load_numbers n)

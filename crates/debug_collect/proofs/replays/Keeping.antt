@@ -1,6 +1,5 @@
 -- The text that is written replays the sequence, and else a limit is passed.
 use Rattle.std.proofs.Common.{◌≡◌, ◌<◌, ◌≤◌, ◌+◌, ◌^◌, ℕ, Bool, true, false, nat_lt, List, length, inl, inr, refl, sym, ap, ◌∙◌, subst, arith}
-use Rattle.std.proofs.lemmas.Bool.Decides.{nat_tests}
 use Rattle.common_lemmas.proofs.Numbers.{lt_is}
 use Rattle.ada_tree.specs.NameList.{predefined}
 use Rattle.ada_tree.specs.PlainProgram.{PProgram}
@@ -34,14 +33,11 @@ use Rattle.debug_collect.specs.replays.inner.Printing.{replay_outcome, ComeTo}
 use Rattle.debug_collect.specs.replays.ReplayOutcomes.{ReplaysLines}
 use Rattle.debug_collect.proofs.replays.OwnTasks.{lists_for_all}
 use Rattle.debug_collect.proofs.replays.TextOutcomes.{outcome_within, outcome_beyond}
+use Rattle.replay_structure.proofs.spots.Sorted.{not-less as at_most}
 
 -- the names of a text within the limit of a program have ids
 within_names : (n : ℕ) → n ≤ text_limit → length predefined + n ≤ 2 ^ 32
 within_names n short = omega (arith, short)
-
--- a number that is not above another one
-at_most : (a b : ℕ) → nat_lt a b ≡ false → b ≤ a
-at_most a b h = grind (arith, nat_tests)
 
 -- What is so of a replay text, with the types and numbers that were found.
 record Holds (p : PProgram) (events : List Event) (types : TypeTable) (numbers : Numbering) : Type 0 where

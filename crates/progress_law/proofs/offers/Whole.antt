@@ -33,7 +33,7 @@ use Rattle.task_laws.proofs.statements.Carried.{starts-so}
 use Rattle.normal_laws.specs.runs.forms.Normalisable.{numbers_of}
 use Rattle.normal_laws.specs.existence.Laws.{IsLegalOriginal}
 use Rattle.replay_runs.proofs.controls.meanings.Numbered.{has_stepped, has_accepted, has_finished, has_resumed, has_took_else, has_took_delay, has_passed}
-use Rattle.replay_runs.proofs.controls.meanings.Reading.{AllKeep, all_keep}
+use Rattle.table_law.proofs.runs.Keeping.{AllKeep, all_keep}
 use Rattle.race_variant.specs.KnownOffers.{is_known_offer}
 use Rattle.race_variant.proofs.Few.{variants_are_few}
 use Rattle.progress_law.specs.offers.Laws.{LegalOffersAreKnown, LegalVariantsAreFew}

@@ -44,11 +44,7 @@ use Rattle.replay_runs.specs.starts.Laws.{form_in}
 use Rattle.replay_runs.proofs.starts.Legal.{legal_has_formals}
 use Rattle.replay_runs.specs.controls.Laws.{controller}
 use Rattle.replay_runs.proofs.controls.Offers.{as-many-tasks}
-
--- what stands behind the first of a list
-beside-first : {A : Type 0} (xs : List A) (j : ℕ) → slice_get xs (suc j) ≡ slice_get (drop 1 xs) j
-beside-first [] j = refl
-beside-first (x ∷ xs) j = refl
+use Rattle.normal_laws.proofs.runs.forms.Making.{beside as beside-first}
 
 -- what is found among the first stays found where two more stand behind them
 pub found-before : {A : Type 0} (test : A → Bool) (xs : List A) (a b : A) (k : ℕ) → position test xs ≡ Some k → position test (xs ++ a ∷ b ∷ []) ≡ Some k

@@ -36,7 +36,7 @@ tasks-from Q P f (DIntIo w s ∷ ds) h = tasks-from Q P f ds h.1
 tasks-from Q P f (DPragma e s ∷ ds) h = tasks-from Q P f ds h.1
 
 -- a body of a name stands among declarations where the name is among those of their bodies
-body-there : (ds : PDecls) (id : NameId) → has_body (decl_list ds) id ≡ list_any (λ n. n == id.0) (check.body_names ds)
+pub body-there : (ds : PDecls) (id : NameId) → has_body (decl_list ds) id ≡ list_any (λ n. n == id.0) (check.body_names ds)
 body-there no_decl id = refl
 body-there (decl_then (DTaskBody w objects its s) rest) id = ap (λ b. (w.name.0 == id.0) || b) (body-there rest id)
 body-there (decl_then (DTask t s) rest) id = body-there rest id

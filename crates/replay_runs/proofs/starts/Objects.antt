@@ -18,6 +18,7 @@ use Rattle.replay_runs.specs.starts.Laws.{HasInteger, zero_object, permit_object
 use Rattle.replay_structure.proofs.texts.Rooted.{ids-apart}
 use Rattle.common_lemmas.proofs.Lists.{all_weaker, texts_differ}
 use Rattle.common_lemmas.proofs.Numbers.{equal_self, unequal_turned}
+use Rattle.table_law.proofs.Found.{later-named as passed}
 
 -- ---- what stands behind
 
@@ -118,10 +119,6 @@ units_start q T int in_main s ds =
 
 -- ---- look-ups
 
--- an object of another name is passed over
-passed : (o : Object) (V : Variables) (id : NameId) → (o.name.0 == id.0) ≡ false → object_named (o ∷ V) id ≡ object_named V id
-passed o V id e = ap (λ (b : Bool). cond b (Some o) (object_named V id)) e
-
 in-front : (X V W : Variables) (id : NameId) → object_named V id ≡ object_named W id → object_named (X ++ V) id ≡ object_named (X ++ W) id
 in-front [] V W id e = e
 in-front (o ∷ X) V W id e = ap (λ (r : Option Object). cond (o.name.0 == id.0) (Some o) r) (in-front X V W id e)
@@ -176,7 +173,7 @@ module _ (q : PProgram) (own : Variables) where
       ∙ here its_kind own
 
 -- objects of other names are passed over
-all-passed : (X V : Variables) (id : NameId) → AllByRecursion (λ (o : Object). (o.name.0 == id.0) ≡ false) X → object_named (X ++ V) id ≡ object_named V id
+pub all-passed : (X V : Variables) (id : NameId) → AllByRecursion (λ (o : Object). (o.name.0 == id.0) ≡ false) X → object_named (X ++ V) id ≡ object_named V id
 all-passed [] V id h = refl
 all-passed (o ∷ X) V id h = passed o (X ++ V) id h.0 ∙ all-passed X V id h.1
 

@@ -126,7 +126,7 @@ bodies-such g (DPragma e sp ∷ ds) = bodies-such g ds
 -- ---- the unit of a task
 
 -- the unit of a body is never main's
-beside-main : (ds : PDecls) (name : NameId) → (unit_among ds name).in_main ≡ false
+pub beside-main : (ds : PDecls) (name : NameId) → (unit_among ds name).in_main ≡ false
 beside-main no_decl name = refl
 beside-main (decl_then (DTaskBody w objects its sp) ds) name = by_test (w.name.0 == name.0) (beside-main ds name)
   where

@@ -42,7 +42,7 @@ replay_keeps_permit b u new σ κ (are_around n i w r r' f) = permit-there (repl
 
 -- ---- the start
 
-own-settled : (hs : PHandlers) (l : PStmts) (V : Variables) → settled (control l (OwnBody hs None) [] V) ≡ control l (OwnBody hs None) [] V
+pub own-settled : (hs : PHandlers) (l : PStmts) (V : Variables) → settled (control l (OwnBody hs None) [] V) ≡ control l (OwnBody hs None) [] V
 own-settled hs no_stmt V = refl
 own-settled hs (stmt_then s l) V = refl
 

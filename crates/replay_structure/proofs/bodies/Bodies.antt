@@ -55,7 +55,7 @@ tasks_keep_numbers p types numbers = record {
 
 -- ---- what is passed over
 
-plain-no-body : (d : PDecl) → IsPlain d → IsNoBody d
+pub plain-no-body : (d : PDecl) → IsPlain d → IsNoBody d
 plain-no-body (DTask t sp) h = tt
 plain-no-body (DTaskBody w objects its sp) h = absurd h
 plain-no-body (DNumber w e sp) h = tt

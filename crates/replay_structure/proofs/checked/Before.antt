@@ -33,7 +33,7 @@ use Rattle.replay_structure.proofs.checked.Bodies.{permit-new, AreBehindTasks}
 
 -- ---- one declaration
 
-single-none : (main : ℕ) (x : PDecl) → IsSingle x → IsNoType main x
+pub single-none : (main : ℕ) (x : PDecl) → IsSingle x → IsNoType main x
 single-none main (DTask t s) h = h
 single-none main (DTaskBody w objects its s) h = tt
 single-none main (DNumber w e s) h = tt
@@ -47,15 +47,15 @@ single-none main (DPragma e s) h = tt
 
 -- ---- units stay where no task is declared
 
-units-meant : (m : Meant) (c : CheckScope) (ws : List Word) → (with_meant m c ws).units ≡ c.units
+pub units-meant : (m : Meant) (c : CheckScope) (ws : List Word) → (with_meant m c ws).units ≡ c.units
 units-meant m c [] = refl
 units-meant m c (w ∷ ws) = units-meant m (with_name c w.name.0 m) ws
 
-units-value : (b : Bool) (c : CheckScope) (ws : List Word) → (with_declared_object b c ws).units ≡ c.units
+pub units-value : (b : Bool) (c : CheckScope) (ws : List Word) → (with_declared_object b c ws).units ≡ c.units
 units-value true c ws = units-meant Shared c ws
 units-value false c ws = refl
 
-units-object : (m : Option Meant) (c : CheckScope) (mark : Word) (b : Bool) (ws : List Word) → (with_object c m mark b ws).units ≡ c.units
+pub units-object : (m : Option Meant) (c : CheckScope) (mark : Word) (b : Bool) (ws : List Word) → (with_object c m mark b ws).units ≡ c.units
 units-object (Some TaskType) c mark b ws = units-meant (TaskOf mark.name) c ws
 units-object (Some MainProcedure) c mark b ws = units-value b c ws
 units-object (Some (TaskOf x)) c mark b ws = units-value b c ws
@@ -63,7 +63,7 @@ units-object (Some Shared) c mark b ws = units-value b c ws
 units-object (Some Inner) c mark b ws = units-value b c ws
 units-object None c mark b ws = units-value b c ws
 
-units-decl : (x : PDecl) (c : CheckScope) → IsPlain x → (after_decl c x).units ≡ c.units
+pub units-decl : (x : PDecl) (c : CheckScope) → IsPlain x → (after_decl c x).units ≡ c.units
 units-decl (DObject ws constant (OPlain x) i s) c p = units-object (meaning c x.mark.name) c x.mark (not constant || is_array_type c.types x.mark.name) ws
 units-decl (DObject ws constant (OArray r x) i s) c p = units-object (meaning c x.mark.name) c x.mark true ws
 units-decl (DNumber w e s) c p = refl

@@ -37,8 +37,6 @@ second-there a b c = or_right (a == b) ((b == b) || ((c == b) || false)) (ap (λ
 pub third-there : (a b c : ℕ) → ((a == c) || ((b == c) || ((c == c) || false))) ≡ true
 third-there a b c = or_right (a == c) ((b == c) || ((c == c) || false)) (or_right (b == c) ((c == c) || false) (ap (λ t. t || false) (equal_self c)))
 
--- ---- what names leave as it is
-
 -- ---- the objects of a body as a list
 
 abbrev pub after_objects : CheckScope → List PDecl → CheckScope
@@ -65,7 +63,7 @@ frame-object (DException ws s) c = meant-frame Inner c []
 frame-object (DIntIo w s) c = meant-frame Inner c []
 frame-object (DPragma e s) c = meant-frame Inner c []
 
-frame-objects : (xs : List PDecl) (c : CheckScope) → IsFrameOf c (after_objects c xs)
+pub frame-objects : (xs : List PDecl) (c : CheckScope) → IsFrameOf c (after_objects c xs)
 frame-objects [] c = meant-frame Inner c []
 frame-objects (x ∷ xs) c =
     let h = frame-object x c in
@@ -73,7 +71,7 @@ frame-objects (x ∷ xs) c =
     record { types = i.types ∙ h.types; own = i.own ∙ h.own; accepting = i.accepting ∙ h.accepting; loops = i.loops ∙ h.loops; in_handler = i.in_handler ∙ h.in_handler }
 
 -- a name that is no shared variable, or may be called, is so behind objects
-use-object : (x : PDecl) (c : CheckScope) (id : NameId) (s : Span) → shared_variable c (uses id s) ≡ [] → shared_variable (after_own_object c x) (uses id s) ≡ []
+pub use-object : (x : PDecl) (c : CheckScope) (id : NameId) (s : Span) → shared_variable c (uses id s) ≡ [] → shared_variable (after_own_object c x) (uses id s) ≡ []
 use-object (DObject ws constant shape i s') c id s h = uses-under c ws id s h
 use-object (DTask t s') c id s h = h
 use-object (DTaskBody w objects its s') c id s h = h
@@ -85,11 +83,11 @@ use-object (DException ws s') c id s h = h
 use-object (DIntIo w s') c id s h = h
 use-object (DPragma e s') c id s h = h
 
-use-objects : (xs : List PDecl) (c : CheckScope) (id : NameId) (s : Span) → shared_variable c (uses id s) ≡ [] → shared_variable (after_objects c xs) (uses id s) ≡ []
+pub use-objects : (xs : List PDecl) (c : CheckScope) (id : NameId) (s : Span) → shared_variable c (uses id s) ≡ [] → shared_variable (after_objects c xs) (uses id s) ≡ []
 use-objects [] c id s h = h
 use-objects (x ∷ xs) c id s h = use-objects xs (after_own_object c x) id s (use-object x c id s h)
 
-callee-object : (x : PDecl) (c : CheckScope) (w : Word) → main_entry c (addresses w) ≡ [] → main_entry (after_own_object c x) (addresses w) ≡ []
+pub callee-object : (x : PDecl) (c : CheckScope) (w : Word) → main_entry c (addresses w) ≡ [] → main_entry (after_own_object c x) (addresses w) ≡ []
 callee-object (DObject ws constant shape i s) c w h = callees-under c ws w h
 callee-object (DTask t s) c w h = h
 callee-object (DTaskBody v objects its s) c w h = h
@@ -101,7 +99,7 @@ callee-object (DException ws s) c w h = h
 callee-object (DIntIo v s) c w h = h
 callee-object (DPragma e s) c w h = h
 
-callee-objects : (xs : List PDecl) (c : CheckScope) (w : Word) → main_entry c (addresses w) ≡ [] → main_entry (after_objects c xs) (addresses w) ≡ []
+pub callee-objects : (xs : List PDecl) (c : CheckScope) (w : Word) → main_entry c (addresses w) ≡ [] → main_entry (after_objects c xs) (addresses w) ≡ []
 callee-objects [] c w h = h
 callee-objects (x ∷ xs) c w h = callee-objects xs (after_own_object c x) w (callee-object x c w h)
 

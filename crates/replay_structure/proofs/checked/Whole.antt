@@ -48,7 +48,7 @@ use Rattle.normal_laws.proofs.legality.declares_once.Bodies.{ids-joined, body_id
 
 -- ---- lists
 
-one-tasks : (xs : List PDecl) → AllByRecursion IsSingle xs → AllByRecursion IsOneTask (filter is_task xs)
+pub one-tasks : (xs : List PDecl) → AllByRecursion IsSingle xs → AllByRecursion IsOneTask (filter is_task xs)
 one-tasks [] h = tt
 one-tasks (DTask t s ∷ xs) h = (h.0, one-tasks xs h.1)
 one-tasks (DTaskBody w objects its s ∷ xs) h = one-tasks xs h.1
@@ -61,7 +61,7 @@ one-tasks (DException ws s ∷ xs) h = one-tasks xs h.1
 one-tasks (DIntIo w s ∷ xs) h = one-tasks xs h.1
 one-tasks (DPragma e s ∷ xs) h = one-tasks xs h.1
 
-one-bodies : (xs : List PDecl) → AllByRecursion IsOneBody (filter is_body xs)
+pub one-bodies : (xs : List PDecl) → AllByRecursion IsOneBody (filter is_body xs)
 one-bodies [] = tt
 one-bodies (DTaskBody w objects its s ∷ xs) = (tt, one-bodies xs)
 one-bodies (DTask t s ∷ xs) = one-bodies xs
@@ -75,7 +75,7 @@ one-bodies (DIntIo w s ∷ xs) = one-bodies xs
 one-bodies (DPragma e s ∷ xs) = one-bodies xs
 
 -- bodies leave what stands around as it is
-bodies-same : (c : CheckScope) (xs : List PDecl) → AllByRecursion IsOneBody xs → after_all c xs ≡ c
+pub bodies-same : (c : CheckScope) (xs : List PDecl) → AllByRecursion IsOneBody xs → after_all c xs ≡ c
 bodies-same c [] h = refl
 bodies-same c (DTaskBody w objects its s ∷ xs) h = bodies-same c xs h.1
 bodies-same c (DTask t s ∷ xs) h = absurd h.0

@@ -49,10 +49,10 @@ none-equal t (u ∷ us) h = or_from (bytes_eq t u) (list_any (bytes_eq t) us) h.
 none-added : (t : List ℕ) → AllByRecursion (λ u. bytes_eq t u ≡ false) declared_texts → starts_with nat_eq t (codes "DED_S_") ≡ false → is_added_text t ≡ false
 none-added t h s = or_from (list_any (bytes_eq t) declared_texts) (starts_with nat_eq t (codes "DED_S_")) (none-equal t declared_texts h) s
 
-abbrev begins_ded : List ℕ → Bool
+abbrev pub begins_ded : List ℕ → Bool
 begins_ded t = starts_with nat_eq t (codes "DED_")
 
-no-ded : (t : List ℕ) → is_reserved t ≡ false → begins_ded t ≡ false
+pub no-ded : (t : List ℕ) → is_reserved t ≡ false → begins_ded t ≡ false
 no-ded t h = by_test (begins_ded t) h
   where
     by_test : (b : Bool) → (b || (has_mark t || bytes_eq t (codes "DED"))) ≡ false → b ≡ false

@@ -53,13 +53,13 @@ use Rattle.replay_structure.proofs.checked.Whole.{bodies-mapped}
 -- ---- lists of names
 
 -- names that are put among names that differ
-put-distinct : (xs ys zs : List ℕ) → AreDistinct (xs ++ zs) → AreDistinct ys → AreApart (xs ++ zs) ys → AreDistinct (xs ++ (ys ++ zs))
+pub put-distinct : (xs ys zs : List ℕ) → AreDistinct (xs ++ zs) → AreDistinct ys → AreApart (xs ++ zs) ys → AreDistinct (xs ++ (ys ++ zs))
 put-distinct xs ys zs d e a =
     let front : AreApart xs ys = all_weaker (IsFreeOf (xs ++ zs)) (IsFreeOf xs) ys (λ y f. free-front xs zs y f) a in
     let back : AreApart zs ys = all_weaker (IsFreeOf (xs ++ zs)) (IsFreeOf zs) ys (λ y f. free-back xs zs y f) a in
     distinct-both xs (ys ++ zs) (distinct-front xs zs d) (distinct-both ys zs e (distinct-back xs zs d) (apart-turned zs ys back)) (all_joined (IsFreeOf xs) ys zs front (distinct-apart xs zs d))
 
-put-free : (xs ys zs : List ℕ) (x : ℕ) → IsFreeOf (xs ++ zs) x → IsFreeOf ys x → IsFreeOf (xs ++ (ys ++ zs)) x
+pub put-free : (xs ys zs : List ℕ) (x : ℕ) → IsFreeOf (xs ++ zs) x → IsFreeOf ys x → IsFreeOf (xs ++ (ys ++ zs)) x
 put-free xs ys zs x h k = free-both xs (ys ++ zs) x (free-front xs zs x h) (free-both ys zs x k (free-back xs zs x h))
 
 put-apart : (xs ys zs ws : List ℕ) → AreApart (xs ++ zs) ws → AreApart ys ws → AreApart (xs ++ (ys ++ zs)) ws
@@ -67,7 +67,7 @@ put-apart xs ys zs [] h k = tt
 put-apart xs ys zs (w ∷ ws) h k = (put-free xs ys zs w h.0 k.0, put-apart xs ys zs ws h.1 k.1)
 
 -- namings of no new names fix and declare none
-clear-names : (X : List ℕ) (ns : List Naming) → AllByRecursion (λ (n : Naming). IsFreeOf X (word_named n).name.0) ns → AreApart X (fixed_names ns) × AreApart X (loose_names ns)
+pub clear-names : (X : List ℕ) (ns : List Naming) → AllByRecursion (λ (n : Naming). IsFreeOf X (word_named n).name.0) ns → AreApart X (fixed_names ns) × AreApart X (loose_names ns)
 clear-names X [] h = (tt, tt)
 clear-names X (Declares true a w ∷ ns) h = let r = clear-names X ns h.1 in ((h.0, r.0), r.1)
 clear-names X (Declares false a w ∷ ns) h = let r = clear-names X ns h.1 in (r.0, (h.0, r.1))
@@ -75,7 +75,7 @@ clear-names X (Labels w ∷ ns) h = let r = clear-names X ns h.1 in (r.0, (h.0, 
 clear-names X (Once a w ∷ ns) h = clear-names X ns h.1
 
 -- the fixed names of the five parts
-five-fixed : (a b c d e : List Naming) → fixed_names ((a ++ (b ++ c ++ d)) ++ e) ≡ (fixed_names a ++ (fixed_names b ++ fixed_names c)) ++ (fixed_names d ++ fixed_names e)
+pub five-fixed : (a b c d e : List Naming) → fixed_names ((a ++ (b ++ c ++ d)) ++ e) ≡ (fixed_names a ++ (fixed_names b ++ fixed_names c)) ++ (fixed_names d ++ fixed_names e)
 five-fixed a b c d e =
     flat_map-append fixed_name (a ++ (b ++ c ++ d)) e
     ∙ ap (λ (l : List ℕ). l ++ fixed_names e)

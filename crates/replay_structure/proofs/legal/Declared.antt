@@ -1,5 +1,5 @@
 -- The declarations of the normal form of a legal program have kept names, and none is too deep.
-use Rattle.std.proofs.Common.{◌≡◌, ℕ, ◌+◌, ◌≤◌, Bool, true, List, [], ◌∷◌, ◌++◌, length, map, flat_map, max, refl, sym, subst, arith}
+use Rattle.std.proofs.Common.{◌≡◌, ℕ, ◌+◌, ◌≤◌, Bool, List, [], ◌∷◌, ◌++◌, length, map, flat_map, max, refl, sym, subst, arith}
 use Rattle.std.specs.List.{AllByRecursion}
 use Rattle.common_lemmas.proofs.Lists.{all_joined}
 use Rattle.ada_tree.specs.TypeTable.{TypeTable}
@@ -15,32 +15,31 @@ use Rattle.task_model.specs.Setting.{Setting}
 use Rattle.normal_model.specs.NormalStmts.{normal_body, unit_variables}
 use Rattle.normal_model.specs.NormalTree.{first_decls, unit_for, running, body_copy, bodies_of, variables_if, variables_of_body, greatest, variables_needed, main_variables}
 use Rattle.normal_laws.proofs.structure.numbers.Listed as list
-use Rattle.normal_laws.specs.structure.types.Own.{own_name}
 use Rattle.normal_laws.proofs.structure.placed.Added.{unit-from}
 use Rattle.normal_laws.specs.structure.checked.Around.{own_rules}
 use Rattle.normal_laws.specs.runs.forms.Normalisable.{numbers_of, setting_for, made_for}
 use Rattle.normal_laws.specs.existence.Laws.{IsLegalOriginal}
 use Rattle.normal_laws.proofs.legality.checks.Facts as facts
 use Rattle.normal_laws.proofs.legality.checks.Copies.{CalleesBeside, bodies-beside}
-use Rattle.replay_structure.proofs.declares_once.Ids.{IsOwn}
 use Rattle.replay_structure.proofs.checkable.Kept.{rules_of}
 use Rattle.replay_structure.proofs.checkable.KeptDecls.{tasks-rest, all-tasks-kept, copies-kept}
+use Rattle.replay_structure.proofs.legal.Keeping.{IsKeeping}
 use Rattle.replay_structure.proofs.legal.Kept.{names-kept, firsts-all, main-vars, vars-kept}
 use Rattle.replay_structure.proofs.legal.Subtypes.{subtypes-kept}
 
 -- none of some numbers is greater than the greatest
-each-within : (f : PDecl → ℕ) (ds : List PDecl) (n : ℕ) → greatest (map f ds) ≤ n → AllByRecursion (λ d. f d ≤ n) ds
+pub each-within : (f : PDecl → ℕ) (ds : List PDecl) (n : ℕ) → greatest (map f ds) ≤ n → AllByRecursion (λ d. f d ≤ n) ds
 each-within f [] n le = tt
 each-within f (d ∷ ds) n le =
     let first : f d ≤ n = omega (arith, le) in
     let rest : greatest (map f ds) ≤ n = omega (arith, le) in
     (first, each-within f ds n rest)
 
-least : (n : ℕ) → 0 ≤ n
+pub least : (n : ℕ) → 0 ≤ n
 least n = omega arith
 
--- Of a test that holds of the program's own names, and of those names of the normal form of which no replay text has one of its own.
-module _ (p : PProgram) (h : IsLegalOriginal p) (kept : ℕ → Bool) (old : (k : ℕ) → own_name p k ≡ true → kept k ≡ true) (new : (x : ℕ) → IsOwn (made_for p).names x → kept x ≡ true) where
+-- Of a test that good names pass.
+module _ (p : PProgram) (h : IsLegalOriginal p) (kept : ℕ → Bool) (are : IsKeeping p kept) where
   abbrev g : Setting
   g = setting_for p
 
@@ -73,8 +72,8 @@ module _ (p : PProgram) (h : IsLegalOriginal p) (kept : ℕ → Bool) (old : (k 
 
       all_copies : length vars ≤ variables_needed g → AreKept (bodies_of g (DTaskBody w objects its s))
       all_copies le =
-          copies-kept g (facts.own p h) kept p.names (check.body_names p.decls) w objects its s at.around (names-kept p h kept old new vars le)
-          (vars-kept p h kept old new vars 0 (unit-from g (EverySubind q 2) (subtypes-kept p h kept old new) (unit_for g w.name).task its) (omega (arith, le))) (λ info i. beside) every placed.2 at.checked
+          copies-kept g (facts.own p h) kept p.names (check.body_names p.decls) w objects its s at.around (names-kept p h kept are vars le)
+          (vars-kept p h kept are vars 0 (unit-from g (EverySubind q 2) (subtypes-kept p h kept are) (unit_for g w.name).task its) (omega (arith, le))) (λ info i. beside) every placed.2 at.checked
 
       by_running : (xs : List TaskInfo) → running g w.name ≡ xs → variables_if xs vars ≤ variables_needed g → AreKept (bodies_of g (DTaskBody w objects its s))
       by_running [] e le = subst (λ xs. AreKept (map copy xs)) (sym e) tt
@@ -105,9 +104,9 @@ module _ (p : PProgram) (h : IsLegalOriginal p) (kept : ℕ → Bool) (old : (k 
       let tasks : List PDecl = list.tasks p T (numbers_of p) in
       let bodies : List PDecl = list.bodies p T (numbers_of p) in
       subst AreKept (sym (list.normal-list p T (numbers_of p)))
-      (all_joined (EveryDecl q) firsts (vars ++ tasks ++ bodies) (every_listed q (first_decls [] p.decls) (firsts-all p h kept old new))
+      (all_joined (EveryDecl q) firsts (vars ++ tasks ++ bodies) (every_listed q (first_decls [] p.decls) (firsts-all p h kept are))
       (all_joined (EveryDecl q) (vars ++ tasks) bodies
-      (all_joined (EveryDecl q) vars tasks (main-vars p h kept old new (subtypes-kept p h kept old new))
-      (all-tasks-kept g (facts.own p h) kept p.names (decl_list p.decls) (names-kept p h kept old new [] (least (variables_needed g))).tasks
-      (tasks-rest (facts.own p h) kept old p.names (check.body_names p.decls) p.decls (facts.around p h) (facts.owns p h).2 (facts.decls-checked p h))))
+      (all_joined (EveryDecl q) vars tasks (main-vars p h kept are (subtypes-kept p h kept are))
+      (all-tasks-kept g (facts.own p h) kept p.names (decl_list p.decls) (names-kept p h kept are [] (least (variables_needed g))).tasks
+      (tasks-rest (facts.own p h) kept are.old p.names (check.body_names p.decls) p.decls (facts.around p h) (facts.owns p h).2 (facts.decls-checked p h))))
       (all-copies (decl_list p.decls) (facts.bodies-known p h) (bodies-beside p h) (every_listed (own_rules (facts.own p h)) p.decls (facts.owns p h).2) (every_listed (well_placed p.names) p.decls h.placed.2) few-variables)))

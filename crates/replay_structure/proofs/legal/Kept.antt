@@ -1,5 +1,5 @@
--- The names in the statements of main and in the first declarations of the normal form of a legal program are kept in its replay texts, and nothing
--- is too deep there; so with its variables, where their subtypes are so.
+-- The names in the statements of main and in the first declarations of the normal form of a legal program pass a test that good names pass, and nothing
+-- is too deep there; so with its variables, where their subtypes are so. One such test is that a replay text keeps the name.
 use Rattle.std.proofs.Common.{◌≡◌, ℕ, ◌+◌, ◌<◌, ◌≤◌, Bool, true, false, ◌||◌, nat_eq, codes, List, [], ◌∷◌, ◌++◌, length, map, max, slice_get, unwrap_or, Option, Some, None, IsSomeAnd, refl, sym, ap, subst, ◌∙◌, arith}
 use Rattle.std.specs.List.{AllByRecursion, list_any, starts_with}
 use Rattle.std.specs.Str.{bytes_eq}
@@ -35,6 +35,7 @@ use Rattle.replay_model.specs.Names.{join_text, operations_text, tasks_text, kin
 use Rattle.replay_structure.proofs.declares_once.Ids.{IsOwn}
 use Rattle.replay_structure.proofs.declares_once.Texts.{good-own, variable-own, task-own}
 use Rattle.replay_structure.specs.checked.Around.{meant_texts, kept_name}
+use Rattle.replay_structure.proofs.legal.Keeping.{IsKeeping}
 use Rattle.replay_structure.proofs.checkable.Kept.{rules_of}
 use Rattle.replay_structure.proofs.checkable.KeptNames.{kept-by}
 use Rattle.replay_structure.proofs.checkable.KeptPieces.{KeepsNames}
@@ -61,8 +62,16 @@ new-kept p x o = by_place (slice_get (made_for p).names x) refl o
         kept-by (made_for p) (record { 0 = x }) (slice_get_within (made_for p).names x t e)
         (ap (λ (s : Option (List ℕ)). list_any (bytes_eq (unwrap_or s [])) meant_texts) e ∙ shorter (bytes_eq t) meant_texts later_texts (or_parts (list_any (bytes_eq t) (meant_texts ++ later_texts)) (starts_with nat_eq t (codes "DED_S_")) k).0)
 
--- Of a test that holds of the program's own names, and of those names of the normal form of which no replay text has one of its own.
-module _ (p : PProgram) (h : IsLegalOriginal p) (kept : ℕ → Bool) (old : (k : ℕ) → own_name p k ≡ true → kept k ≡ true) (new : (x : ℕ) → IsOwn (made_for p).names x → kept x ≡ true) where
+-- A test that holds of the program's own names, and of those names of the normal form of which no replay text has one of its own.
+pub keeping : (p : PProgram) (kept : ℕ → Bool) → ((k : ℕ) → own_name p k ≡ true → kept k ≡ true) → ((x : ℕ) → IsOwn (made_for p).names x → kept x ≡ true) → IsKeeping p kept
+keeping p kept old new = record {
+  old = old;
+  good = λ x k. new x (good-own (setting_for p) (variables_needed (setting_for p)) x k);
+  variable = λ k l. new (variable_name (setting_for p) k).0 (variable-own (setting_for p) (variables_needed (setting_for p)) k l);
+  task = λ info n. new (task_name (setting_for p) info).0 (task-own (setting_for p) (variables_needed (setting_for p)) info n);
+}
+
+module _ (p : PProgram) (h : IsLegalOriginal p) (kept : ℕ → Bool) (are : IsKeeping p kept) where
   abbrev g : Setting
   g = setting_for p
 
@@ -76,7 +85,7 @@ module _ (p : PProgram) (h : IsLegalOriginal p) (kept : ℕ → Bool) (old : (k 
   r' = rules_of kept
 
   pub first-kept : (k : ℕ) → k < 25 → kept k ≡ true
-  first-kept k l = new k (good-own g (variables_needed g) k (record { there = first-named p.names h.names k l; free = first-free p.names h.names k l }))
+  first-kept k l = are.good k (record { there = first-named p.names h.names k l; free = first-free p.names h.names k l })
 
   main-few : length (main_variables g) ≤ variables_needed g
   main-few = at-most (length (main_variables g)) (greatest (map (variables_of_body g) (decl_list p.decls)))
@@ -85,7 +94,7 @@ module _ (p : PProgram) (h : IsLegalOriginal p) (kept : ℕ → Bool) (old : (k 
       at-most a b = omega arith
 
   variable-kept : (k : ℕ) → k < variables_needed g → kept (variable_name g k).0 ≡ true
-  variable-kept k l = new (variable_name g k).0 (variable-own g (variables_needed g) k l)
+  variable-kept k l = are.variable k l
 
   -- the literals of indices are names that the program declares, or predefined ones
   literal-kept : (id : NameId) → IsLiteralOf g id → kept id.0 ≡ true
@@ -95,14 +104,14 @@ module _ (p : PProgram) (h : IsLegalOriginal p) (kept : ℕ → Bool) (old : (k 
     where
       go : (o : Option NameId) → slice_get ids k ≡ o → kept (unwrap_or o (record { 0 = 0 })).0 ≡ true
       go None f = first-kept 0 (omega arith)
-      go (Some x) f = old x.0 (facts.valued-own p h x (has-value T x (kinds-there ids x T.kinds i (place-there ids k x f))))
+      go (Some x) f = are.old x.0 (facts.valued-own p h x (has-value T x (kinds-there ids x T.kinds i (place-there ids k x f))))
 
   pub names-kept : (vars : List PDecl) → length vars ≤ variables_needed g → KeepsNames g (facts.own p h) kept vars
   names-kept vars few = record {
-    old = old;
+    old = are.old;
     first = first-kept;
     variables = λ k l. variable-kept k (omega (arith, l, few));
-    tasks = λ info i. new (task_name g info).0 (task-own g (variables_needed g) info (among (IsNamed g) info (tasks_beside g) i (named p h)));
+    tasks = λ info i. are.task info (among (IsNamed g) info (tasks_beside g) i (named p h));
     literals = literal-kept;
   }
 
@@ -115,7 +124,7 @@ module _ (p : PProgram) (h : IsLegalOriginal p) (kept : ℕ → Bool) (old : (k 
 
   -- the first declarations, the variables of main, and the tasks
   pub firsts-all : EveryDecls r' (first_decls [] p.decls)
-  firsts-all = firsts-kept (facts.own p h) kept old p.names (check.body_names p.decls) p.decls [] (facts.around p h) (facts.owns p h).2 (facts.decls-checked p h)
+  firsts-all = firsts-kept (facts.own p h) kept are.old p.names (check.body_names p.decls) p.decls [] (facts.around p h) (facts.owns p h).2 (facts.decls-checked p h)
 
   pub vars-kept : (vs : List PDecl) (k : ℕ) → AreVariablesFrom g (EverySubind r' 2) k vs → k + length vs ≤ variables_needed g → AllByRecursion (EveryDecl r') vs
   vars-kept [] k v l = tt

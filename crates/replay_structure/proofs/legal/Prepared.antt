@@ -39,7 +39,7 @@ use Rattle.replay_structure.specs.checked.Around.{kept_name}
 use Rattle.replay_structure.specs.checked.Checkable.{IsOtherThanTruth, entries_count, IsBeside}
 use Rattle.replay_structure.specs.checkable.Prepared.{form_for}
 use Rattle.replay_structure.proofs.checkable.KeptNames.{own-kept}
-use Rattle.replay_structure.proofs.legal.Kept.{new-kept, main-kept}
+use Rattle.replay_structure.proofs.legal.Kept.{new-kept, keeping, main-kept}
 use Rattle.replay_structure.specs.legal.Laws.{LegalIsPrepared}
 
 -- ---- no object is named FALSE
@@ -177,7 +177,7 @@ legal_is_prepared p events h kept = record {
   main = (facts.olds p h).0;
   truth = facts.first-own p h false_name (lit< tt);
   declared = kept.declared;
-  named = main-kept p h (kept_name (made_for p)) (own-kept p (types_in p) (numbers_of p)) (new-kept p);
+  named = main-kept p h (kept_name (made_for p)) (keeping p (kept_name (made_for p)) (own-kept p (types_in p) (numbers_of p)) (new-kept p));
   untrue = untrue p h;
   few_tasks = few-tasks p h;
   few_entries = few-entries p h;

@@ -28,22 +28,21 @@ use Rattle.task_model.specs.Setting.{Setting, formals_of_info}
 use Rattle.normal_model.specs.Ranges.{marked, subtype_of_range, array_range, range_of_info, family_range}
 use Rattle.normal_model.specs.Calls.{Slot, slots_of}
 use Rattle.task_laws.specs.legal.alike_scopes.Old.{IsOldSubind}
-use Rattle.normal_laws.specs.structure.types.Own.{own_name}
 use Rattle.normal_laws.proofs.structure.placed.Added.{AreSubtypes}
 use Rattle.normal_laws.proofs.existence.variable_types.Numbers.{EntryRule, IsRuled, IsEntryOf, entry-of, formals-are, range-is}
 use Rattle.normal_laws.proofs.existence.variable_types.Subtypes.{RangeEvery}
 use Rattle.normal_laws.specs.structure.checked.Around.{own_rules}
-use Rattle.normal_laws.specs.runs.forms.Normalisable.{numbers_of, setting_for, made_for}
+use Rattle.normal_laws.specs.runs.forms.Normalisable.{numbers_of, setting_for}
 use Rattle.normal_laws.specs.existence.Laws.{IsLegalOriginal}
 use Rattle.normal_laws.specs.legality.scopes.Plain.{plain_name}
 use Rattle.normal_laws.proofs.legality.scopes.Names.{plain-own}
 use Rattle.normal_laws.proofs.legality.typed_declarations.Variables.{subtypes-good}
 use Rattle.normal_laws.proofs.legality.typed_declarations.Joined.{program-rules}
 use Rattle.normal_laws.proofs.legality.checks.Facts as facts
-use Rattle.replay_structure.proofs.declares_once.Ids.{IsOwn}
 use Rattle.replay_structure.proofs.checkable.Kept.{rules_of, drange-kept}
 use Rattle.replay_structure.proofs.checkable.KeptDecls.{HasRest, tasks-rest}
 use Rattle.replay_structure.proofs.checkable.Tasks.{in-tasks}
+use Rattle.replay_structure.proofs.legal.Keeping.{IsKeeping}
 use Rattle.replay_structure.proofs.legal.Kept.{first-kept}
 
 -- ---- arrays of tasks
@@ -101,7 +100,7 @@ module _ (own kept : ℕ → Bool) (old : (n : ℕ) → own n ≡ true → kept 
 
 -- ---- a legal program
 
-module _ (p : PProgram) (h : IsLegalOriginal p) (kept : ℕ → Bool) (old : (k : ℕ) → own_name p k ≡ true → kept k ≡ true) (new : (x : ℕ) → IsOwn (made_for p).names x → kept x ≡ true) where
+module _ (p : PProgram) (h : IsLegalOriginal p) (kept : ℕ → Bool) (are : IsKeeping p kept) where
   abbrev g : Setting
   g = setting_for p
 
@@ -112,7 +111,7 @@ module _ (p : PProgram) (h : IsLegalOriginal p) (kept : ℕ → Bool) (old : (k 
   q = rules_of kept
 
   plain-kept : (k : ℕ) → plain_name p k ≡ true → kept k ≡ true
-  plain-kept k e = old k (plain-own p k e)
+  plain-kept k e = are.old k (plain-own p k e)
 
   -- ---- ranges
 
@@ -123,7 +122,7 @@ module _ (p : PProgram) (h : IsLegalOriginal p) (kept : ℕ → Bool) (old : (k 
   array-kept id = by_part (find (λ (x : NamedTasks). x.name.name.0 == id.0) (task_names_of p)) refl
     where
       all : AllByRecursion IsRow (task_names_of p)
-      all = rows-kept (facts.own p h) kept old p.names (check.body_names p.decls) p.decls [] (facts.around p h) (facts.owns p h).2 (facts.decls-checked p h)
+      all = rows-kept (facts.own p h) kept are.old p.names (check.body_names p.decls) p.decls [] (facts.around p h) (facts.owns p h).2 (facts.decls-checked p h)
 
       by_part : (o : Option NamedTasks) → find (λ (x : NamedTasks). x.name.name.0 == id.0) (task_names_of p) ≡ o → IfSome (and_then (λ (x : NamedTasks). x.index_range) o) (EveryDrange q 2)
       by_part None e = tt
@@ -131,7 +130,7 @@ module _ (p : PProgram) (h : IsLegalOriginal p) (kept : ℕ → Bool) (old : (k 
 
   -- the subtype of a range of which the names are kept, where the name of its type is so
   range-kept : (s : Span) (o : Option PDrange) → IsOldSubind (plain_name p) (subtype_of_range T s o) → IfSome o (EveryDrange q 2) → EverySubind q 2 (subtype_of_range T s o)
-  range-kept s None plain i = (first-kept p h kept old new 0 (omega arith), tt)
+  range-kept s None plain i = (first-kept p h kept are 0 (omega arith), tt)
   range-kept s (Some (RMarked x)) plain i = i
   range-kept s (Some (RGiven b)) plain i = (plain-kept _ plain.0, i)
 
@@ -146,7 +145,7 @@ module _ (p : PProgram) (h : IsLegalOriginal p) (kept : ℕ → Bool) (old : (k 
 
   -- the entries and priorities of all tasks
   pub rest-kept : AllByRecursion (HasRest kept) (tasks_of p)
-  rest-kept = in-tasks (HasRest kept) (decl_list p.decls) (tasks-rest (facts.own p h) kept old p.names (check.body_names p.decls) p.decls (facts.around p h) (facts.owns p h).2 (facts.decls-checked p h))
+  rest-kept = in-tasks (HasRest kept) (decl_list p.decls) (tasks-rest (facts.own p h) kept are.old p.names (check.body_names p.decls) p.decls (facts.around p h) (facts.owns p h).2 (facts.decls-checked p h))
 
   entry-there : (e : ℕ) (info : EntryInfo) → entry_at (numbers_of p) e ≡ Some info → IsEntryOf p Rule (numbers_of p).tasks info
   entry-there e info f =
@@ -183,8 +182,8 @@ module _ (p : PProgram) (h : IsLegalOriginal p) (kept : ℕ → Bool) (old : (k 
   subtypes-kept =
       let good = subtypes-good p h (program-rules p h).2 in
       record {
-        integers = λ s. (first-kept p h kept old new 0 (omega arith), tt);
-        truths = λ s. (first-kept p h kept old new 3 (omega arith), tt);
+        integers = λ s. (first-kept p h kept are 0 (omega arith), tt);
+        truths = λ s. (first-kept p h kept are 3 (omega arith), tt);
         arrays = λ s id. range-kept s (array_range p id) (good.array s id).1 (array-kept id);
         families = λ s e. range-kept s (family_range g e) (good.family s e).1 (family-kept e);
         formals = λ e. slots-kept (formals_of_info g (entry_at (numbers_of p) e)) (formals-kept e);

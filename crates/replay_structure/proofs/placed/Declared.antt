@@ -49,10 +49,10 @@ module _ (r : Rules) where
 -- ---- the order of declarations
 
 -- it is no body
-abbrev IsNoBody : PDecl → Type 0
+abbrev pub IsNoBody : PDecl → Type 0
 IsNoBody d = is_body d ≡ false
 
-bodies-front : (xs ys : List PDecl) → AllByRecursion IsNoBody xs → BodiesLast (decls_of ys) → BodiesLast (decls_of (xs ++ ys))
+pub bodies-front : (xs ys : List PDecl) → AllByRecursion IsNoBody xs → BodiesLast (decls_of ys) → BodiesLast (decls_of (xs ++ ys))
 bodies-front [] ys h i = i
 bodies-front (DTaskBody w objects its s ∷ xs) ys h i = cc
 bodies-front (DTask t s ∷ xs) ys h i = bodies-front xs ys h.1 i
@@ -97,11 +97,11 @@ bodies-last (DIntIo w s ∷ ds) h = absurd h.0
 bodies-last (DPragma e s ∷ ds) h = absurd h.0
 
 -- objects, in a list
-abbrev IsObject : PDecl → Type 0
+abbrev pub IsObject : PDecl → Type 0
 IsObject (DObject ws c x i s) = Prim.Unit {0}
 IsObject _ = ⊥
 
-objects-list : (ds : PDecls) → AreObjects ds → AllByRecursion IsObject (decl_list ds)
+pub objects-list : (ds : PDecls) → AreObjects ds → AllByRecursion IsObject (decl_list ds)
 objects-list no_decl h = tt
 objects-list (decl_then (DObject ws c x i s) l) h = (tt, objects-list l h)
 objects-list (decl_then (DNumber w e s) l) h = absurd h
@@ -114,7 +114,7 @@ objects-list (decl_then (DPragma e s) l) h = absurd h
 objects-list (decl_then (DTask t s) l) h = absurd h
 objects-list (decl_then (DTaskBody w objects its s) l) h = absurd h
 
-list-objects : (ds : List PDecl) → AllByRecursion IsObject ds → AreObjects (decls_of ds)
+pub list-objects : (ds : List PDecl) → AllByRecursion IsObject ds → AreObjects (decls_of ds)
 list-objects [] h = tt
 list-objects (DObject ws c x i s ∷ l) h = list-objects l h.1
 list-objects (DNumber w e s ∷ l) h = absurd h.0
@@ -134,7 +134,7 @@ go-up first n m (p ∷ ps) le h = (h.0, omega (arith, le, h.1), go-up p n m ps l
 
 -- ---- the first declarations
 
-filtered-bodies : (ds : List PDecl) → AllByRecursion IsNoBody (filter (λ d. not (is_task d || is_body d)) ds)
+pub filtered-bodies : (ds : List PDecl) → AllByRecursion IsNoBody (filter (λ d. not (is_task d || is_body d)) ds)
 filtered-bodies [] = tt
 filtered-bodies (DTaskBody w objects its s ∷ ds) = filtered-bodies ds
 filtered-bodies (DTask t s ∷ ds) = filtered-bodies ds
@@ -188,7 +188,7 @@ module _ (g : Setting) where
       subst (λ ys. BodiesLast (decls_of ys)) (sym (append_assoc (first ++ tasks ++ added) bodies last))
       (bodies-front (first ++ tasks ++ added) (bodies ++ last) front (bodies-last (bodies ++ last) (all_joined IsBody bodies last (only-bodies ds) (tt, (tt, tt)))))
 
-pred-less : (n : ℕ) → pred n ≤ n
+pub pred-less : (n : ℕ) → pred n ≤ n
 pred-less zero = omega arith
 pred-less (suc n) = omega arith
 

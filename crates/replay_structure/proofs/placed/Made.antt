@@ -44,7 +44,7 @@ pub number-few : {A : Type 0} (p : A → Bool) (xs : List A) → unwrap_or (posi
 number-few p [] = omega arith
 number-few p (x ∷ xs) = place-few p (x ∷ xs) x
 
-next-few : {A : Type 0} (p : A → Bool) (xs : List A) → unwrap_or (option_map (λ k. k + 1) (position p xs)) 0 ≤ length xs
+pub next-few : {A : Type 0} (p : A → Bool) (xs : List A) → unwrap_or (option_map (λ k. k + 1) (position p xs)) 0 ≤ length xs
 next-few {A = A} p xs = by_list xs
   where
     go : (ys : List A) (d : A) (o : Option ℕ) → position p ys ≡ o → unwrap_or (option_map (λ k. k + 1) o) 0 ≤ length ys
@@ -55,7 +55,7 @@ next-few {A = A} p xs = by_list xs
     by_list [] = omega arith
     by_list (y ∷ ys) = go (y ∷ ys) y (position p (y ∷ ys)) refl
 
-entry-few : (numbers : Numbering) (t : ℕ) (name : NameId) → entry_of numbers t name ≤ length numbers.entries
+pub entry-few : (numbers : Numbering) (t : ℕ) (name : NameId) → entry_of numbers t name ≤ length numbers.entries
 entry-few numbers t name = next-few (λ info. (info.owner == t) && (info.name.0 == name.0)) numbers.entries
 
 -- ---- guards

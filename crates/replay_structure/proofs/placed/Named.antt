@@ -16,7 +16,7 @@ use Rattle.replay_structure.specs.placed.Placeable.{IsReplayPlaceable}
 use Rattle.replay_structure.proofs.placed.Tests.{AreAdded}
 
 -- the name of a kind is that of its first mark, or INTEGER
-mark-named : (names : List (List ℕ)) (k : ℕ) (ms : List Mark) → IsName names (record { 0 = 0 }) → AllByRecursion (λ m. IfSome m.name (IsName names)) ms → IsName names (unwrap_or (and_then (λ m. m.name) (find (λ m. m.kind == k) ms)) (record { 0 = 0 }))
+pub mark-named : (names : List (List ℕ)) (k : ℕ) (ms : List Mark) → IsName names (record { 0 = 0 }) → AllByRecursion (λ m. IfSome m.name (IsName names)) ms → IsName names (unwrap_or (and_then (λ m. m.name) (find (λ m. m.kind == k) ms)) (record { 0 = 0 }))
 mark-named names k [] first h = first
 mark-named names k (m ∷ ms) first h = by_test (m.kind == k) (mark-named names k ms first h.1)
   where

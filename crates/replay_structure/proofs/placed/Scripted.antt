@@ -17,6 +17,7 @@ use Rattle.normal_laws.specs.structure.placed.Placeable.{IsSmallIndex}
 use Rattle.replay_model.specs.Promised.{HasLiteral}
 use Rattle.replay_structure.specs.placed.Placeable.{HasLiterals, HasSmallIndices}
 use Rattle.control_script.proofs.Writing.{as_many, as_many_at_start}
+use Rattle.replay_structure.proofs.placed.Declared.{pred-less as pred-below}
 
 -- ---- at least one
 
@@ -59,10 +60,6 @@ filtered-few p (x ∷ xs) = by_test (p x) (filtered-few p xs)
 ranged-length : (first n : ℕ) → length (range_with_len first n) ≡ n
 ranged-length first zero = refl
 ranged-length first (suc n) = ap suc (ranged-length (first + 1) n)
-
-pred-below : (n : ℕ) → pred n ≤ n
-pred-below zero = omega arith
-pred-below (suc n) = omega arith
 
 -- the permits to end are no more than the tasks, and one
 ending-few : (k : Known) → length (map to_close (open_tasks k) ++ to_close 0 ∷ []) ≤ length k.parties + 1

@@ -104,7 +104,7 @@ replayed-tasks g (DException ws s ∷ ds) = replayed-tasks g ds
 replayed-tasks g (DIntIo w s ∷ ds) = replayed-tasks g ds
 replayed-tasks g (DPragma e s ∷ ds) = replayed-tasks g ds
 
-sorted-tasks : (ds : List PDecl) → tasks_in (filter is_task ds) ≡ tasks_in ds
+pub sorted-tasks : (ds : List PDecl) → tasks_in (filter is_task ds) ≡ tasks_in ds
 sorted-tasks [] = refl
 sorted-tasks (DTask t s ∷ ds) = ap (λ l. t ∷ l) (sorted-tasks ds)
 sorted-tasks (DTaskBody w objects its s ∷ ds) = sorted-tasks ds
@@ -117,7 +117,7 @@ sorted-tasks (DException ws s ∷ ds) = sorted-tasks ds
 sorted-tasks (DIntIo w s ∷ ds) = sorted-tasks ds
 sorted-tasks (DPragma e s ∷ ds) = sorted-tasks ds
 
-sorted-bodies : (ds : List PDecl) → tasks_in (filter is_body ds) ≡ []
+pub sorted-bodies : (ds : List PDecl) → tasks_in (filter is_body ds) ≡ []
 sorted-bodies [] = refl
 sorted-bodies (DTask t s ∷ ds) = sorted-bodies ds
 sorted-bodies (DTaskBody w objects its s ∷ ds) = sorted-bodies ds

@@ -73,7 +73,7 @@ body-single g (DPragma e s ∷ ds) h = absurd h.0
 
 -- ---- tasks
 
-info-longer : (before names : List (List ℕ)) (id : NameId) → Begins before names → id.0 < length before → task_info names id ≡ task_info before id
+pub info-longer : (before names : List (List ℕ)) (id : NameId) → Begins before names → id.0 < length before → task_info names id ≡ task_info before id
 info-longer before names id b within = ap (λ a. record { name = id; added = a; unit = id; member = None }) (added-longer before names id b within)
 
 -- the numbers of tasks whose names stand in front

@@ -89,7 +89,7 @@ replayed-units g [] h = tt
 replayed-units g (d ∷ ds) h = (replayed-unit g d h.0, replayed-units g ds h.1)
 
 -- an object that has an own name first is no variable of the normal form
-own-object : (p : PProgram) (names : List (List ℕ)) (d : PDecl) → Begins p.names names → EveryDecl (old_names (own_name p)) d → is_added_object names d ≡ false
+pub own-object : (p : PProgram) (names : List (List ℕ)) (d : PDecl) → Begins p.names names → EveryDecl (old_names (own_name p)) d → is_added_object names d ≡ false
 own-object p names (DObject [] c x i s) b h = refl
 own-object p names (DObject (w ∷ ws) c x i s) b h =
     let own : own_name p w.name.0 ≡ true = h.1.1 0 w (omega arith) in
@@ -104,12 +104,12 @@ own-object p names (DException ws s) b h = refl
 own-object p names (DIntIo w s) b h = refl
 own-object p names (DPragma e s) b h = refl
 
-own-objects : (p : PProgram) (names : List (List ℕ)) (ds : PDecls) → Begins p.names names → EveryDecls (old_names (own_name p)) ds → AllByRecursion (λ d. is_added_object names d ≡ false) (decl_list ds)
+pub own-objects : (p : PProgram) (names : List (List ℕ)) (ds : PDecls) → Begins p.names names → EveryDecls (old_names (own_name p)) ds → AllByRecursion (λ d. is_added_object names d ≡ false) (decl_list ds)
 own-objects p names no_decl b h = tt
 own-objects p names (decl_then d ds) b h = (own-object p names d b h.0, own-objects p names ds b h.1)
 
 -- lists one behind the other, and one in front
-append_assoc4 : (x a b c d e : List PDecl) → x ++ a ++ b ++ c ++ d ++ e ≡ x ++ (a ++ b ++ c ++ d ++ e)
+pub append_assoc4 : (x a b c d e : List PDecl) → x ++ a ++ b ++ c ++ d ++ e ≡ x ++ (a ++ b ++ c ++ d ++ e)
 append_assoc4 x a b c d e =
     ap (λ l. l ++ e) (ap (λ l. l ++ d) (ap (λ l. l ++ c) (append_assoc x a b) ∙ append_assoc x (a ++ b) c) ∙ append_assoc x (a ++ b ++ c) d)
     ∙ append_assoc x (a ++ b ++ c ++ d) e

@@ -189,7 +189,7 @@ module _ (d : Scope) where
 
 -- ---- calls of a unit
 
-no-index : (d : Scope) (o : Option PExpr) (s : Span) → at_place (is_some o) s ≡ [] → AllMetBut (if_there (expr_sites d) o)
+pub no-index : (d : Scope) (o : Option PExpr) (s : Span) → at_place (is_some o) s ≡ [] → AllMetBut (if_there (expr_sites d) o)
 no-index d None s e = tt
 no-index d (Some x) s e = cc
 

@@ -1,18 +1,17 @@
 -- The declarations of a replay text meet the static rules 1 and 3 to 12: the variables of a permit, the controller, the idle task, and the tasks of
 -- the normal form with doubles of their entries.
-use Rattle.std.proofs.Common.{◌≡◌, ℕ, pos, int_lt, Bool, true, false, ◌&&◌, if◌then◌else◌, List, [], ◌∷◌, ◌++◌, map, flat_map, Option, Some, None, IfSome, option_map, refl, sym, ap, ap₂, subst, ◌∙◌, arith}
+use Rattle.std.proofs.Common.{◌≡◌, ℕ, pos, int_lt, Bool, true, false, ◌&&◌, if◌then◌else◌, List, [], ◌∷◌, ◌++◌, map, flat_map, Option, Some, None, IfSome, refl, sym, ap, subst, ◌∙◌, arith}
 use Rattle.std.specs.List.{AllByRecursion}
 use Rattle.std.proofs.lemmas.Int.{ints}
 use Rattle.std.proofs.lemmas.List.Elements.{recursion_from_All}
 use Rattle.common_lemmas.proofs.Lists.{all_back, all_front, all_joined}
 use Rattle.ada_tree.specs.declared.naming.Span.{Span}
 use Rattle.ada_tree.specs.declared.naming.Word.{Word}
-use Rattle.ada_tree.specs.declared.static_types.Mark.{Mark}
 use Rattle.ada_tree.specs.PlainExpr.{EInteger, PDrange, PSubind}
 use Rattle.ada_tree.specs.PlainDecl.{OPlain, PInit, IOne, PEntry, PPriority, PTask, DTask}
 use Rattle.ada_tree.specs.PlainProgram.{PProgram}
 use Rattle.ada_tree.specs.Every.{EveryDrange, EveryFormal, EveryEntry, EveryPriority, EveryTask}
-use Rattle.ada_static_rules.specs.Scope.{Scope, Range, Variable, ScalarMark, integer_kind, mark_at, marking_of, marking_of_mark, range_of_mark}
+use Rattle.ada_static_rules.specs.Scope.{Scope, Variable, ScalarMark, integer_kind, mark_at, marking_of, marking_of_mark}
 use Rattle.ada_static_rules.specs.Declaring.{Declared, subind_made, of_made, plain_object, declared_object}
 use Rattle.ada_static_rules.specs.Demand.{must_be_static, must_lie_in, initializes, for_scalar, Site}
 use Rattle.ada_static_rules.specs.Sites.{site, if_there, names_sites, expr_of, static_of, drange_sites, formals_sites, entry_sites, entries_sites, shape_sites, scalar_init_sites, is_task_object, object_marking, init_sites, decl_sites}
@@ -32,8 +31,6 @@ use Rattle.replay_structure.specs.typed.Controller.{IsInteger}
 use Rattle.replay_structure.proofs.typed.Calls.{number-met}
 use Rattle.replay_structure.proofs.typed.Control.{integer-mark, all_values, integer-range}
 
--- ---- names
-
 -- ---- entries
 
 -- what is asked of an entry but its name
@@ -47,7 +44,7 @@ entries-met d (e ∷ es) names h =
     (record { known = refl; matched = refl; static = refl; ranged = refl; variable = refl; readable = refl; counted = refl; chosen = refl; arrays = refl; texts = refl; exceptions = refl }, h.0)
     (entries-met d es (e.name.name.0 ∷ names) h.1)
 
-entries-told : (c : Scope) (es : List PEntry) (names : List ℕ) → AllMetBut (entries_sites c names es) → AllByRecursion (IsMetEntry c) es
+pub entries-told : (c : Scope) (es : List PEntry) (names : List ℕ) → AllMetBut (entries_sites c names es) → AllByRecursion (IsMetEntry c) es
 entries-told c [] names h = tt
 entries-told c (e ∷ es) names h =
     ((all_front IsMetBut (entry_sites c names e) (entries_sites c (e.name.name.0 ∷ names) es) h).1, entries-told c es (e.name.name.0 ∷ names) (all_back IsMetBut (entry_sites c names e) (entries_sites c (e.name.name.0 ∷ names) es) h))

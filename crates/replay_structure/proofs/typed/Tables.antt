@@ -1,6 +1,6 @@
 -- The tables of the controller: their declarations meet the static rules 1 and 3 to 12, behind them each table is seen as an array of INTEGER, and so is
 -- a line of one as a number.
-use Rattle.std.proofs.Common.{◌≡◌, ℕ, suc, ◌≤◌, ◌==◌, ℤ, pos, negsuc, ◌-ℤ◌, ◌+ℤ◌, int_lt, int_le, Bool, true, false, ◌&&◌, ◌||◌, if◌then◌else◌, List, [], ◌∷◌, ◌++◌, length, map, flat_map, Option, Some, None, is_some, refl, sym, ap, ap₂, subst, ◌∙◌, arith}
+use Rattle.std.proofs.Common.{◌≡◌, ℕ, ◌≤◌, ◌==◌, ℤ, pos, negsuc, ◌-ℤ◌, ◌+ℤ◌, int_lt, int_le, Bool, true, false, ◌&&◌, ◌||◌, if◌then◌else◌, List, [], ◌∷◌, ◌++◌, length, map, flat_map, Option, Some, None, is_some, refl, sym, ap, ap₂, subst, ◌∙◌, arith}
 use Rattle.std.specs.List.{AllByRecursion}
 use Rattle.std.specs.Ordering.{int_eq}
 use Rattle.std.proofs.lemmas.Int.{ints}
@@ -16,25 +16,25 @@ use Rattle.ada_tree.specs.declared.static_types.Kind.{Kind as ValueKind}
 use Rattle.ada_tree.specs.declared.static_types.Kind.TheVariants.{Array}
 use Rattle.ada_tree.specs.declared.static_types.Mark.{Mark}
 use Rattle.ada_tree.specs.TypeTable.{TypeTable}
-use Rattle.ada_tree.specs.PlainExpr.{PExpr, EInteger, EName, EIndex, PDrange}
-use Rattle.ada_tree.specs.PlainDecl.{PInit, IOthers, IList, PDecl, PDecls, decls_of, decl_then, no_decl}
+use Rattle.ada_tree.specs.PlainExpr.{PExpr, EInteger, EName, EIndex}
+use Rattle.ada_tree.specs.PlainDecl.{PInit, IOthers, IList, PDecl, PDecls, decls_of}
 use Rattle.ada_tree.specs.PlainProgram.{PProgram}
-use Rattle.ada_static_rules.specs.Scope.{Scope, Range, Thing, ConstantObject, LoopParameter, Marking, ScalarMark, ArrayMark, AsScalar, AsArray, integer_kind, kind_at, mark_at, meaning, reading, reading_of, reading_of_mark, reading_of_kind, marking_of_mark, marking_of_kind, range_of_mark}
+use Rattle.ada_static_rules.specs.Scope.{Scope, Range, ConstantObject, LoopParameter, ArrayMark, AsScalar, AsArray, integer_kind, kind_at, mark_at, meaning, reading, reading_of, reading_of_mark, reading_of_kind, marking_of_mark, marking_of_kind, range_of_mark}
 use Rattle.ada_static_rules.specs.ExprTypes.{kind_of, name_kind, component_kind, static_in, is_kind, ok_value}
-use Rattle.ada_static_rules.specs.StaticValue.{is_static, value_of, is_integer_value}
+use Rattle.ada_static_rules.specs.StaticValue.{value_of}
 use Rattle.ada_static_rules.specs.Declaring.{Declared, add_mark, add_kind, made_array, subind_made, drange_range, of_made, array_object, declared_object, with_name, with_names, with_types, with_constants, after_own_object, after_objects}
-use Rattle.ada_static_rules.specs.Demand.{Site, scalar_only, must_be_of, must_lie_in, must_be_static, must_not_be_empty, for_array, initializes}
-use Rattle.ada_static_rules.specs.Sites.{site, names_sites, expr_sites, expr_of, drange_sites, subind_sites, shape_sites, component_marks, may_be_task, array_init_sites, init_sites, object_marking, is_task_object, value_sites, own_object_sites, own_sites, choice_sites}
+use Rattle.ada_static_rules.specs.Demand.{Site, must_be_of, must_lie_in, must_not_be_empty, for_array, initializes}
+use Rattle.ada_static_rules.specs.Sites.{site, names_sites, expr_sites, expr_of, drange_sites, subind_sites, shape_sites, component_marks, may_be_task, array_init_sites, init_sites, object_marking, is_task_object, value_sites, own_object_sites, own_sites}
 use Rattle.ada_static_rules.specs.RuleMismatch.{no_value, misfit_index}
 use Rattle.ada_static_rules.specs.RuleRangeBad.{is_outside}
 use Rattle.ada_static_rules.specs.RuleArgCount.{index_on_scalar}
 use Rattle.ada_static_rules.specs.RuleReadOut.{out_formal}
 use Rattle.ada_static_rules.specs.RuleArrayUse.{whole_array}
-use Rattle.ada_static_rules.specs.RuleChoiceBad.{mark_of_part, mark_of_object, selected_range}
+use Rattle.ada_static_rules.specs.RuleChoiceBad.{mark_of_part, selected_range}
 use Rattle.control_script.specs.declared.Op.{Op}
 use Rattle.task_laws.specs.legal.rewritten_types.Agreement.{Grows, Keeps, IsScalar}
 use Rattle.task_laws.specs.legal.rewritten_types.Rewriting.{IsAdded}
-use Rattle.task_laws.proofs.legal.rewritten_types.Keeping.{grows-on, grows-mark, grows-kind, keeps-self}
+use Rattle.task_laws.proofs.legal.rewritten_types.Keeping.{grows-on, grows-mark, grows-kind}
 use Rattle.task_laws.proofs.legal.rewritten_types.Adding.{keeps-objects}
 use Rattle.task_laws.proofs.legal.alike_scopes.Inner.{own-object-main}
 use Rattle.task_laws.proofs.legal.alike_scopes.Marks.{kind-ranged, scalar-reading, range-grown, scalar-grown}
@@ -46,7 +46,7 @@ use Rattle.normal_laws.proofs.structure.numbers.Named.{Has}
 use Rattle.normal_laws.proofs.structure.typed.Places.{met-whole, met-node, met-of, met-in, met-static}
 use Rattle.normal_laws.proofs.structure.typed.Variables.{AllMetBut, words-met, of-kind}
 use Rattle.normal_laws.proofs.structure.typed.Scopes.{meaning-more}
-use Rattle.normal_laws.proofs.structure.typed.Literals.{integer-marked, plain-fixed, number-fixed}
+use Rattle.normal_laws.proofs.structure.typed.Literals.{integer-marked, number-fixed}
 use Rattle.normal_laws.proofs.structure.typed.Choices.{choice-met}
 use Rattle.replay_model.specs.declared.tables.columns.Column.{Column}
 use Rattle.replay_model.specs.declared.tables.columns.Column.TheVariants.{Operation, Task, Kind, Argument, Index}
@@ -62,6 +62,7 @@ use Rattle.replay_structure.proofs.placed.Said.{all-small}
 use Rattle.replay_structure.proofs.typed.Calls.{number-met}
 use Rattle.replay_structure.proofs.typed.Control.{all_values, integer-range, integer-mark}
 use Rattle.replay_structure.proofs.scopes.Permit.{only, objects-means, integer-step}
+use Rattle.task_laws.proofs.legal.alike_scopes.Selectors.{marked-selector as selected-by}
 
 -- ---- what is seen
 
@@ -122,10 +123,6 @@ small-within (negsuc n) h = low n h
   where
     low : (m : ℕ) → m ≤ 2147483647 → (int_le (negsuc 2147483647) (negsuc m) && int_le (negsuc m) (pos 2147483647)) ≡ true
     low m l = grind (arith, ints)
-
--- the values of a selector by the mark of its object
-selected-by : (d : Scope) (e : PExpr) (m : ℕ) → mark_of_object d e ≡ Some m → selected_range d e ≡ range_of_mark d.types m
-selected-by d e m h = rw h refl
 
 module _ (d : Scope) (id n : NameId) (s : Span) (table : IsTable d id) (counter : IsCounter d n) where
   -- `DED_TS(DED_N)`

@@ -43,16 +43,16 @@ truth-is k e = by_test (truth_kind == k) refl e
     by_test true f e = eqb-true truth_kind k f
     by_test false f e = cc
 
-no-other : (b : Bool) → is_other_kind (Some truth_kind) (if b then Some truth_kind else None) ≡ false
+pub no-other : (b : Bool) → is_other_kind (Some truth_kind) (if b then Some truth_kind else None) ≡ false
 no-other true = refl
 no-other false = refl
 
-compared-kind : (a b : Option ℕ) → is_other_kind (Some truth_kind) (binary_kind of_any_kind a b) ≡ false
+pub compared-kind : (a b : Option ℕ) → is_other_kind (Some truth_kind) (binary_kind of_any_kind a b) ≡ false
 compared-kind None b = refl
 compared-kind (Some k) None = refl
 compared-kind (Some k) (Some j) = no-other (k == j)
 
-compared-fits : (k : ℕ) (b : Option ℕ) (l r : PExpr) → is_other_kind (Some k) b ≡ false → misfit_operand of_any_kind (Some k) b l r ≡ []
+pub compared-fits : (k : ℕ) (b : Option ℕ) (l r : PExpr) → is_other_kind (Some k) b ≡ false → misfit_operand of_any_kind (Some k) b l r ≡ []
 compared-fits k None l r e = refl
 compared-fits k (Some j) l r e = ap (λ t. if t then expr_place r ∷ [] else []) e
 

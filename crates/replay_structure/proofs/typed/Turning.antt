@@ -1,5 +1,5 @@
 -- The body of the controller meets the static rules 1 and 3 to 12: the tables, the loop over them, and what is done in a turn.
-use Rattle.std.proofs.Common.{◌≡◌, ℕ, zero, suc, ◌+◌, ◌≤◌, ◌==◌, pos, negsuc, int_le, Bool, true, false, ◌&&◌, if◌then◌else◌, List, [], ◌∷◌, ◌++◌, length, map, flat_map, drop, position, Option, Some, None, is_some, refl, sym, ap, ap₂, subst, ◌∙◌, arith}
+use Rattle.std.proofs.Common.{◌≡◌, ℕ, suc, ◌+◌, ◌≤◌, ◌==◌, pos, negsuc, int_le, Bool, true, false, ◌&&◌, if◌then◌else◌, List, [], ◌∷◌, ◌++◌, length, drop, Some, None, is_some, refl, sym, ap, subst, ◌∙◌, arith}
 use Rattle.std.specs.List.{AllByRecursion, list_any}
 use Rattle.std.proofs.lemmas.Int.{ints}
 use Rattle.std.proofs.lemmas.Bool.{eq-eqb, or_from}
@@ -11,16 +11,16 @@ use Rattle.ada_tree.specs.declared.naming.Word.{Word}
 use Rattle.ada_tree.specs.declared.static_types.Mark.{Mark}
 use Rattle.ada_tree.specs.Lexical.{IsInteger as IsLiteral}
 use Rattle.ada_tree.specs.PlainExpr.{PExpr, EInteger}
-use Rattle.ada_tree.specs.PlainStmt.{PCall, PChoice, LFor, PHead, PStmt, SNull, PStmts, stmts_of, PCaseArms, no_case_arm, case_arm_then, case_arms_of, absent, present, body, no_handler}
-use Rattle.ada_tree.specs.PlainDecl.{PDecls, decls_of}
+use Rattle.ada_tree.specs.PlainStmt.{PCall, PChoice, PHead, PStmt, SNull, PStmts, stmts_of, PCaseArms, no_case_arm, case_arm_then, case_arms_of, absent, body, no_handler}
+use Rattle.ada_tree.specs.PlainDecl.{decls_of}
 use Rattle.ada_tree.specs.PlainProgram.{PProgram}
-use Rattle.ada_static_rules.specs.Scope.{Scope, Range, FormalPart, Family, single, family, EntryPart, SingleTask, LoopParameter, AnException, integer_kind, mark_at, meaning, entry_named, and_then}
+use Rattle.ada_static_rules.specs.Scope.{Scope, Range, FormalPart, Family, single, family, EntryPart, AnException, integer_kind, mark_at, meaning, entry_named, and_then}
 use Rattle.ada_static_rules.specs.ExprTypes.{kind_of}
-use Rattle.ada_static_rules.specs.Declaring.{inner_scope, in_body, own_entries, after_objects, first_mark_of, loop_thing, drange_kind, with_name, with_loop_parameter}
+use Rattle.ada_static_rules.specs.Declaring.{inner_scope, in_body, own_entries, after_objects, first_mark_of, loop_thing, drange_kind, with_loop_parameter}
 use Rattle.ada_static_rules.specs.Demand.{Site, chooses, must_lie_in}
-use Rattle.ada_static_rules.specs.Sites.{site, names_sites, expr_sites, expr_of, drange_sites, choice_sites, arm_choices, head_sites, handler_names_sites, scheme_sites, loop_scope, call_sites, stmt_sites, stmts_sites, maybe_sites, case_arms_sites, body_sites, own_sites, decl_sites}
+use Rattle.ada_static_rules.specs.Sites.{site, names_sites, expr_sites, expr_of, drange_sites, choice_sites, arm_choices, head_sites, handler_names_sites, call_sites, stmt_sites, stmts_sites, case_arms_sites, body_sites, own_sites, decl_sites}
 use Rattle.ada_static_rules.specs.RuleNotException.{no_exception}
-use Rattle.ada_static_rules.specs.RuleChoiceBad.{selected_range, choice_range, choice_span, do_overlap, overlaps_one, overlapping, bad_choices}
+use Rattle.ada_static_rules.specs.RuleChoiceBad.{selected_range, choice_span, do_overlap, overlapping, bad_choices}
 use Rattle.ada_static_rules.proofs.found_twice.Declared.{objects_own}
 use Rattle.syn_event.specs.declared.numbering.TaskInfo.{TaskInfo}
 use Rattle.task_model.specs.Setting.{Setting}
@@ -28,7 +28,6 @@ use Rattle.control_script.specs.declared.Op.{Op}
 use Rattle.task_laws.specs.legal.rewritten_types.Agreement.{IsScalar}
 use Rattle.task_laws.specs.legal.alike_scopes.Laws.{IsMetBut}
 use Rattle.task_laws.proofs.legal.rewritten_types.Keeping.{grows-self, keeps-self}
-use Rattle.task_laws.proofs.legal.rewritten_types.Adding.{keeps-objects}
 use Rattle.task_laws.proofs.legal.types.GoodScopes.{IsIn, names-kept}
 use Rattle.normal_model.specs.Making.{one}
 use Rattle.normal_model.specs.Ranges.{word_at}
@@ -40,7 +39,7 @@ use Rattle.normal_laws.proofs.structure.typed.Choices.{choice-met}
 use Rattle.replay_model.specs.declared.tables.columns.Column.{Column}
 use Rattle.replay_model.specs.declared.tables.columns.Column.TheVariants.{Operation, Task, Kind, Argument, Index}
 use Rattle.replay_model.specs.declared.tables.names.ControlNames.{ControlNames}
-use Rattle.replay_model.specs.Names.{kind_text, argument_text, index_text, control_text, go_text, done_text, hold_text, join_text, counter_text, added_id, added_word}
+use Rattle.replay_model.specs.Names.{kind_text, argument_text, index_text, control_text, go_text, done_text, hold_text, counter_text, added_id, added_word}
 use Rattle.replay_model.specs.tables.Columns.{acts, holds, columns, table_name}
 use Rattle.replay_model.specs.tables.Tables.{up_to, tables_for}
 use Rattle.replay_model.specs.tables.Turns.{line_of, accept_by, part_given, given, going, hearing, joined, value_arm, join_arms, joining, turn_arms, turn}
@@ -51,22 +50,22 @@ use Rattle.replay_structure.specs.typed.ScopeOf.{HasLists, permit_parts}
 use Rattle.replay_structure.specs.typed.Controller.{IsInteger, IsOutside, IsController, IsJoinable, IsAwaited}
 use Rattle.replay_structure.proofs.placed.Said.{acts-all}
 use Rattle.replay_structure.proofs.typed.Calls.{single-met, listed-call}
-use Rattle.replay_structure.proofs.typed.Control.{all_values, integer-range, listed-accept, out-assigned, formals, words, same-names, formals-met, behind, out-number, kind-in, argument-in, index-in}
-use Rattle.replay_structure.proofs.typed.Tables.{IsTable, IsCounter, table-step, counter-step, line-kind, line-sites, line-in, line-selects, loop-range-met, IsNoTable, means-behind, integer-behind, tables-met, tables-seen, two-apart, tables-apart, no-table, table-other}
+use Rattle.replay_structure.proofs.typed.Control.{all_values, listed-accept, out-assigned, formals, words, same-names, formals-met, behind, out-number, kind-in, argument-in, index-in}
+use Rattle.replay_structure.proofs.typed.Tables.{IsTable, IsCounter, table-step, counter-step, line-kind, line-sites, line-in, line-selects, loop-range-met, means-behind, integer-behind, tables-met, tables-seen, two-apart, tables-apart, no-table, table-other}
 use Rattle.replay_structure.proofs.scopes.Permit.{integer-step}
 
 -- ---- choices of one value each, in ascending order
 
 -- the values of a choice lie below the next ones
-abbrev IsBelow : ℕ → Range → Type 0
+abbrev pub IsBelow : ℕ → Range → Type 0
 IsBelow v r = int_le (pos v) r.last ≡ false
 
-third-false : (a b c d : Bool) → c ≡ false → (a && b && c && d) ≡ false
+pub third-false : (a b c d : Bool) → c ≡ false → (a && b && c && d) ≡ false
 third-false true true c d e = ap (λ t. t && d) e
 third-false true false c d e = refl
 third-false false b c d e = refl
 
-none-overlap : (v : ℕ) (seen : List Range) → AllByRecursion (IsBelow v) seen → list_any (do_overlap (record { kind = integer_kind; first = pos v; last = pos v })) seen ≡ false
+pub none-overlap : (v : ℕ) (seen : List Range) → AllByRecursion (IsBelow v) seen → list_any (do_overlap (record { kind = integer_kind; first = pos v; last = pos v })) seen ≡ false
 none-overlap v [] h = refl
 none-overlap v (r ∷ seen) h =
     or_from (do_overlap (record { kind = integer_kind; first = pos v; last = pos v }) r) (list_any (do_overlap (record { kind = integer_kind; first = pos v; last = pos v })) seen)
@@ -97,7 +96,7 @@ value-small v h = grind (arith, ints)
 -- ---- the parameter of the loop
 
 -- the first mark of numbers
-counter-mark : (d : Scope) → IsInteger d → (j : ℕ) × (m : Mark) × (first_mark_of d.types integer_kind ≡ Some j) × (mark_at d.types j ≡ Some m) × (m.kind ≡ integer_kind)
+pub counter-mark : (d : Scope) → IsInteger d → (j : ℕ) × (m : Mark) × (first_mark_of d.types integer_kind ≡ Some j) × (mark_at d.types j ≡ Some m) × (m.kind ≡ integer_kind)
 counter-mark d int =
     let test : Mark → Bool = λ m. m.kind == integer_kind in
     let some = found_some test d.types.marks int.its.place int.its.mark int.its.there (eq-eqb int.its.mark.kind integer_kind int.its.kind) in

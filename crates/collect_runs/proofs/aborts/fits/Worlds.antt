@@ -32,7 +32,7 @@ use Rattle.replay_runs.specs.controls.indices.Laws.{KeepsUnit, StaysKept}
 use Rattle.replay_runs.specs.controls.meanings.Settings.{form_setup, form_program, form_opening}
 use Rattle.replay_runs.proofs.controls.Offers.{as-many-numbers}
 use Rattle.replay_runs.proofs.controls.indices.Joined.{legal_units_start, units_stay}
-use Rattle.replay_runs.proofs.controls.meanings.Reading.{AllKeep, all_keep}
+use Rattle.table_law.proofs.runs.Keeping.{AllKeep, all_keep}
 use Rattle.collect_runs.specs.telling.Texts.{Texts, program_of}
 use Rattle.collect_runs.specs.imitating.Settings.{IsMade, Opened, Went}
 use Rattle.collect_runs.proofs.starts.Worlds.{HasMoves, has-moves}

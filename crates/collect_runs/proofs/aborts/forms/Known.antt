@@ -33,7 +33,7 @@ use Rattle.replay_runs.proofs.controls.replayed.Settings.{stepped-same, accepted
 use Rattle.replay_runs.proofs.controls.replayed.Settings.{delay-same, passed-same}
 use Rattle.replay_runs.specs.controls.meanings.Settings.{form_setup, form_program, form_opening}
 use Rattle.replay_runs.proofs.controls.meanings.Naming.{owner-below}
-use Rattle.replay_runs.proofs.controls.meanings.Reading.{AllKeep, all_keep}
+use Rattle.table_law.proofs.runs.Keeping.{AllKeep, all_keep}
 use Rattle.collect_model.specs.CollectNumbers.{numbers_with}
 use Rattle.collect_runs.specs.telling.Texts.{program_of}
 use Rattle.collect_runs.specs.imitating.Settings.{IsMade}

@@ -49,8 +49,8 @@ use Rattle.replay_model.specs.ReplayTree.{is_task, is_body, last_task}
 use Rattle.replay_structure.proofs.bodies.Bodies.{unit-at}
 use Rattle.replay_runs.specs.starts.Laws.{own_part, added_part, objects_in, form_in, start_before}
 use Rattle.replay_runs.specs.starts.Formals.{form_setting}
-use Rattle.replay_runs.proofs.starts.Objects.{objects-behind}
-use Rattle.replay_runs.proofs.starts.Programs.{in-unit, all-added}
+use Rattle.replay_runs.proofs.starts.Objects.{objects-behind, all-passed}
+use Rattle.replay_runs.proofs.starts.Programs.{in-unit, all-added, beside-main as none-in-main}
 use Rattle.replay_runs.proofs.starts.Tables.{integer_is_there, IsOldDecl, objects-alike}
 use Rattle.replay_runs.proofs.controls.translated.Objects.{beside-main}
 use Rattle.collect_model.specs.declared.AddedNames.{AddedNames}
@@ -60,7 +60,7 @@ use Rattle.collect_model.specs.Recording.{truth}
 use Rattle.collect_model.specs.CollectTree.{unit_declared, behind_own, main_declared, is_int_io, recorder_told}
 use Rattle.collect_runs.specs.translation.Floors.{HasVariables}
 use Rattle.collect_runs.proofs.forms.Objects.{extends-over, extends-same, named, start-plain}
-use Rattle.collect_runs.proofs.forms.Starting.{all-passed, all-own, in-turn, parted, put, passed-over, plain-listed, bodies-listed, none-in-main}
+use Rattle.collect_runs.proofs.forms.Starting.{all-own, in-turn, parted, put, passed-over, plain-listed, bodies-listed}
 use Rattle.collect_model.specs.aborts.Places.{places_in, most_places}
 use Rattle.collect_model.specs.aborts.AbortTeller.{AbortTeller, told_at, told_in}
 use Rattle.collect_model.specs.aborts.AbortStmts.{main_body, task_body}
@@ -74,7 +74,7 @@ use Rattle.collect_runs.specs.aborts.forms.Laws.{StartsWithPlaces}
 use Rattle.collect_runs.proofs.aborts.translation.Carried.{abort_starts}
 use Rattle.collect_runs.proofs.aborts.forms.Tables.{AreCounted, agrees, names_are_added, places_are_added, few-places, types_agree, values}
 use Rattle.collect_runs.proofs.aborts.forms.Old.{names-stay}
-use Rattle.collect_runs.proofs.forms.Old.{only-old}
+use Rattle.replay_runs.proofs.controls.translated.OldBodies.{only-old}
 use Rattle.collect_runs.proofs.aborts.forms.Bodies.{told_unit}
 use Rattle.collect_runs.proofs.aborts.forms.Units.{legal_runs_told}
 use Rattle.collect_runs.proofs.aborts.forms.Places.{place_cells, extends-places, passed-places, taken-found, refused-found}

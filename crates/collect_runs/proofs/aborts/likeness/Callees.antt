@@ -1,9 +1,8 @@
 -- The case statement of a callee that is chosen: both come to the branch of the same member.
-use Rattle.std.proofs.Common.{◌≡◌, ℕ, ◌==◌, ◌&&◌, cond, ℤ, Bool, true, false, if◌then◌else◌, List, [], ◌∷◌, length, map, Option, Some, None, option_map, Result, Ok, refl, sym, ap, subst, ◌∙◌, slice_get, slice_set, position, arith, true≢false}
+use Rattle.std.proofs.Common.{◌≡◌, ℕ, ◌==◌, ◌&&◌, cond, ℤ, Bool, true, false, if◌then◌else◌, List, [], ◌∷◌, length, map, Option, Some, None, option_map, Result, Ok, refl, sym, ap, subst, ◌∙◌, slice_get, slice_set, position, true≢false}
 use Rattle.std.specs.Prelude.{int_le, is_some, is_ok, ok_or, find, nat_lt}
 use Rattle.std.specs.List.{AllByRecursion, filter, position_or_len}
 use Rattle.std.specs.Ordering.{int_eq}
-use Rattle.std.proofs.lemmas.Bool.Decides.{Decides-int_eq}
 use Rattle.std.proofs.lemmas.Bool.{eqb-true}
 use Rattle.std.proofs.lemmas.List.Folds.{find_at}
 use Rattle.std.proofs.lemmas.Option.{slice_get_within, none-some}
@@ -35,10 +34,7 @@ use Rattle.collect_runs.specs.aborts.likeness.Likeness.{Ground, Goal, Beside, fo
 use Rattle.collect_runs.proofs.aborts.likeness.Near.{Agree, fixed-none, near-right}
 use Rattle.collect_runs.proofs.aborts.likeness.Preludes.{FitsThere, Stable}
 use Rattle.common_lemmas.proofs.Numbers.{lt_true, lt_is}
-
--- a position lies between another and itself where the two are the same
-eq-le : (z i : ℤ) → (int_le i z && int_le z i) ≡ int_eq z i
-eq-le z i = grind (arith, Decides-int_eq)
+use Rattle.normal_laws.proofs.runs.callees.Choosing.{eq-le}
 
 fit-bool : (b : Bool) → and_then {A = Bool} {B = Bool} (Ok b) (λ c. if c then Ok true else Ok false) ≡ Ok b
 fit-bool true = refl

@@ -1,5 +1,5 @@
 -- Calls of a normal form: both go through what stands in front of one, through the call and through what stands behind it alike.
-use Rattle.std.proofs.Common.{◌≡◌, ℕ, suc, ◌+◌, ◌≤◌, ◌<◌, ℤ, Bool, true, false, List, [], ◌∷◌, ◌++◌, length, map, Option, Some, None, option_map, unwrap_or, Ok, refl, sym, ap, subst, ◌∙◌, arith}
+use Rattle.std.proofs.Common.{◌≡◌, ℕ, suc, ◌+◌, ◌≤◌, ◌<◌, ℤ, List, [], ◌∷◌, ◌++◌, length, map, Option, Some, None, unwrap_or, Ok, refl, sym, ap, subst, ◌∙◌, arith}
 use Rattle.std.specs.Prelude.{is_ok}
 use Rattle.std.proofs.lemmas.List.{append_assoc, length-append, length-map, map-append}
 use Rattle.ada_tree.specs.declared.naming.NameId.{NameId}
@@ -8,14 +8,14 @@ use Rattle.ada_tree.specs.declared.naming.Word.{Word}
 use Rattle.ada_tree.specs.declared.statements.ParMode.{ParMode}
 use Rattle.ada_tree.specs.declared.statements.ParMode.TheVariants.{Take, Give, Both}
 use Rattle.ada_tree.specs.PlainExpr.{PExpr, PSubind}
-use Rattle.ada_tree.specs.PlainStmt.{PArgs, PCall, SAssign, SCall}
+use Rattle.ada_tree.specs.PlainStmt.{PCall, SAssign, SCall}
 use Rattle.ada_static_rules.specs.ExprTypes.{expr_place}
-use Rattle.syn_event.specs.Numbering.{Numbering, task_named, entry_at}
+use Rattle.syn_event.specs.Numbering.{task_named, entry_at}
 use Rattle.ada_value.specs.declared.values.Value.{Value}
 use Rattle.ada_value.specs.Values.{and_then, lies_in, position_of}
 use Rattle.ada_value.specs.Variables.{Variables, set_value}
 use Rattle.ada_value.specs.Evaluating.{name_value, evaluated}
-use Rattle.task_model.specs.Setting.{Setting, entry_of, is_family, family_limits, index_in, member_index, member_named, parameters_of, entry_parameters, formals_of_info, Lists, lists_of, lists_in}
+use Rattle.task_model.specs.Setting.{Setting, entry_of, is_family, family_limits, index_in, member_index, member_named, parameters_of, entry_parameters, formals_of_info, Lists, lists_of}
 use Rattle.task_model.specs.Frames.{in_front}
 use Rattle.task_model.specs.Steps as steps
 use Rattle.task_model.specs.Calls.{Called, called, called_with, openings, Copies, copied_back, variable_of}
@@ -23,18 +23,18 @@ use Rattle.normal_model.specs.Names.{variable_name}
 use Rattle.normal_model.specs.Ranges.{word_at, subtype_of_range, array_range, family_range}
 use Rattle.normal_model.specs.Making.{one, variable, kept_before, kept_subtypes, kept_if, moving}
 use Rattle.normal_model.specs.Members.{callee_kept, chosen}
-use Rattle.normal_model.specs.Calls.{Slot, entry_called, slots_called, lists_called, indices_kept, index_number, actual_number, actuals_before, actuals_passed, actual_subtypes, actual_behind, copied_to, actuals_behind, args_passed, lists_passed, call_to, call_before, call_behind, call_subtypes, plain_image}
+use Rattle.normal_model.specs.Calls.{Slot, entry_called, slots_called, lists_called, indices_kept, index_number, actual_number, actuals_before, actuals_passed, actual_subtypes, actual_behind, copied_to, actuals_behind, args_passed, call_to, call_before, call_behind, call_subtypes, plain_image}
 use Rattle.task_laws.specs.translation.Translations.{Programs, IsOld}
-use Rattle.task_laws.specs.translation.OldNames.{OldExpr, OldOption, old_none, old_some}
-use Rattle.task_laws.specs.translation.OldTexts.{OldExprs, old_no_expr, old_expr, OldList, old_no_list, old_list, OldArgs, old_args, OldCall}
-use Rattle.normal_laws.specs.runs.floors.Suited.{declared_limits, AreMade, HasLists, no_lists, plain_lists, family_lists, IsCopied, only_taken, given_back, both_ways, AreCopied, none_copied, copied_then, IsCall}
-use Rattle.normal_laws.specs.runs.floors.Preludes.{due_before, OldDues, old_no_due, old_passed, old_due}
-use Rattle.normal_laws.specs.runs.floors.inner.Actuals.{due_of, actual_dues}
+use Rattle.task_laws.specs.translation.OldNames.{OldExpr, OldOption, old_some}
+use Rattle.task_laws.specs.translation.OldTexts.{OldCall}
+use Rattle.normal_laws.specs.runs.floors.Suited.{declared_limits, AreMade, IsCopied, only_taken, given_back, both_ways, AreCopied, none_copied, copied_then, IsCall}
+use Rattle.normal_laws.specs.runs.floors.Preludes.{due_before, OldDues}
+use Rattle.normal_laws.specs.runs.floors.inner.Actuals.{actual_dues}
 use Rattle.normal_laws.specs.runs.floors.Declared.{HaveSubtypes, subtype_then, dues_of}
 use Rattle.normal_laws.proofs.runs.floors.Declared.{subtypes-fit, kept-dues, kept-length}
 use Rattle.normal_laws.proofs.runs.floors.Actuals.{kept-due, actuals-due, due-append}
 use Rattle.normal_laws.proofs.runs.floors.Static.{moving-is, entry-same, entry-named, family-same}
-use Rattle.normal_laws.proofs.runs.calls.Calling.{lists-are, index_passed}
+use Rattle.normal_laws.proofs.runs.calls.Calling.{lists-are, index_passed, dues-old, lists-old, option-old, lists-passed}
 use Rattle.task_laws.proofs.invariants.Variables.{chain, ok_path}
 use Rattle.collect_runs.specs.aborts.telling.Forms.{backs}
 use Rattle.collect_runs.specs.aborts.likeness.Likeness.{Ground, Goal, form, with_these, Near, Always, Skipped, copies_in, PassesCall, Passes}
@@ -47,49 +47,6 @@ use Rattle.collect_runs.proofs.aborts.likeness.Callees.{InRange, in-range, range
 use Rattle.collect_runs.proofs.aborts.likeness.Copying.{SameModes, formals-modes, openings-same, backs-near, lost-near, BackAgree, AgreeBack, backs-agree}
 
 -- ---- lists
-
-passed-none : (g : Setting) (s : Span) (xs : List Slot) (k : ℕ) → actuals_passed g s xs [] k ≡ []
-passed-none g s [] k = refl
-passed-none g s (x ∷ xs) k = refl
-
-passed-second : (g : Setting) (s : Span) (xs : List Slot) (k : ℕ) (second : Option (List PExpr)) →
-    unwrap_or (option_map (λ es. actuals_passed g s xs es k) second) [] ≡ actuals_passed g s xs (unwrap_or second []) k
-passed-second g s xs k None = sym (passed-none g s xs k)
-passed-second g s xs k (Some es) = refl
-
-lists-passed : (g : Setting) (s : Span) (c : PCall) (n : ℕ) {f : Bool} {args : Option PArgs} {index : Option PExpr} {actuals : List PExpr} → HasLists f args index actuals →
-    is_family g.numbers (entry_called g c) ≡ f → (numbers : Numbering) (e : ℕ) → is_family numbers e ≡ f →
-    lists_of numbers e (args_passed g s c n args) ≡ record { index = index_passed g s (index_number g s c n) index; actuals = actuals_passed g s (slots_called g c) actuals (actual_number g s c n) }
-lists-passed g s c n no_lists k numbers e h = ap (λ l. record { index = None; actuals = l }) (sym (passed-none g s (slots_called g c) (actual_number g s c n)))
-lists-passed g s c n (plain_lists args) k numbers e h =
-    ap (λ t. lists_in t (lists_passed (is_family g.numbers (entry_called g c)) g s c n args)) h ∙ ap (λ t. lists_in false (lists_passed t g s c n args)) k
-lists-passed g s c n (family_lists d second) k numbers e h =
-    ap (λ t. lists_in t (lists_passed (is_family g.numbers (entry_called g c)) g s c n (record { first = d ∷ []; second = second }))) h
-    ∙ ap (λ t. lists_in true (lists_passed t g s c n (record { first = d ∷ []; second = second }))) k
-    ∙ ap (λ l. record { index = Some (variable g s (index_number g s c n)); actuals = l }) (passed-second g s (slots_called g c) (actual_number g s c n) second)
-
-lists-old : (b : Programs) {f : Bool} {args : Option PArgs} {index : Option PExpr} {actuals : List PExpr} → HasLists f args index actuals → OldArgs b args → OldOption b index × OldExprs b actuals
-lists-old b no_lists h = (old_none, old_no_expr)
-lists-old b (plain_lists args) (old_args a first second) = (old_none, first)
-lists-old b (family_lists d second) (old_args a (old_expr e rest old k) more) = (old_some d old, row more)
-  where
-    row : {o : Option (List PExpr)} → OldList b o → OldExprs b (unwrap_or o [])
-    row old_no_list = old_no_expr
-    row (old_list es h) = h
-
-due-old : (b : Programs) (m : ParMode) (e : PExpr) (ds : List (Option PExpr)) → OldExpr b e → OldDues b ds → OldDues b (due_of m e ∷ ds)
-due-old b Take e ds old h = old_due e ds old h
-due-old b Give e ds old h = old_passed ds h
-due-old b Both e ds old h = old_due e ds old h
-
-dues-old : (b : Programs) (xs : List Slot) {es : List PExpr} → OldExprs b es → OldDues b (actual_dues xs es)
-dues-old b [] h = old_no_due
-dues-old b (x ∷ xs) old_no_expr = old_no_due
-dues-old b (x ∷ xs) (old_expr e es old h) = due-old b x.mode e (actual_dues xs es) old (dues-old b xs h)
-
-option-old : (b : Programs) {o : Option PExpr} → OldOption b o → {ds : List (Option PExpr)} → OldDues b ds → OldDues b (dues_of o ++ ds)
-option-old b old_none h = h
-option-old b (old_some e old) {ds} h = old_due e ds old h
 
 copied-length : (b : Programs) {xs : List Slot} {es : List PExpr} → AreCopied b xs es → length (actual_subtypes xs es) ≡ length es
 copied-length b none_copied = refl

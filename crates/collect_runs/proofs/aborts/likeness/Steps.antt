@@ -23,7 +23,7 @@ use Rattle.collect_runs.specs.aborts.likeness.Likeness.{Ground, Goal, Beside, fo
 use Rattle.collect_runs.proofs.aborts.likeness.Near.{object-self}
 use Rattle.collect_runs.proofs.aborts.likeness.Frames.{of-there, joined, at-settled, settles, at-exited, goes, goes-raised, goes-pushed}
 use Rattle.collect_runs.proofs.aborts.likeness.Near.{near-drop}
-use Rattle.collect_runs.proofs.telling.Standing.{no-name}
+use Rattle.replay_runs.proofs.controls.meanings.Pairs.{no-name}
 
 -- ---- branches of a test
 

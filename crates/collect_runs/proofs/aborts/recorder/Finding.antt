@@ -11,7 +11,7 @@ use Rattle.ada_value.specs.Values.{integer_limits}
 use Rattle.ada_value.specs.Variables.{Object, Variables, object_named, set_value}
 use Rattle.ada_value.specs.Evaluating.{evaluated, name_value}
 use Rattle.table_law.specs.Controllers.{AreApart}
-use Rattle.table_law.proofs.Found.{found, first-named}
+use Rattle.table_law.proofs.Found.{found, first-named, later-named as passed-one}
 use Rattle.run_laws.specs.collecting.Notes.{flagged}
 use Rattle.collect_model.specs.Recording.{truth}
 use Rattle.collect_runs.specs.recorder.Telling.{Spelled}
@@ -20,7 +20,7 @@ use Rattle.run_laws.specs.aborts.Notes.{Book, numbered_so}
 use Rattle.collect_runs.specs.aborts.recorder.Recorders.{Recorder, names_of, last_of, variable_names, IsRecorder}
 use Rattle.collect_runs.specs.aborts.recorder.States.{numbers_object, flags_object, formal_object, kept, note_variables}
 use Rattle.collect_runs.proofs.aborts.recorder.Tables.{number-changed, flag-changed}
-use Rattle.collect_runs.proofs.aborts.telling.Placing.{passed-one, set-one}
+use Rattle.collect_runs.proofs.aborts.telling.Placing.{set-one}
 
 -- ---- books
 

@@ -29,7 +29,7 @@ use Rattle.task_model.specs.Rendezvous.{finished}
 use Rattle.normal_model.specs.Making.{one}
 use Rattle.normal_model.specs.Ranges.{word_at, integer_subtype}
 use Rattle.table_law.specs.States.{Comes, Offers}
-use Rattle.table_law.proofs.Numbers.{small, fitted-ok}
+use Rattle.table_law.proofs.Numbers.{fitted-ok}
 use Rattle.table_law.proofs.Turning.{step-first}
 use Rattle.run_laws.specs.collecting.Notes.{text}
 use Rattle.collect_model.specs.Noting.{number}
@@ -43,6 +43,7 @@ use Rattle.collect_runs.specs.aborts.recorder.Recorders.{Recorder, names_of, las
 use Rattle.collect_runs.specs.aborts.recorder.States.{lines_of, written_of, standing, numbers_object, flags_object, kept, note_variables, starting, loop_around, behind_loop, waiting, hearing}
 use Rattle.collect_runs.proofs.aborts.recorder.Tables.{values-all}
 use Rattle.collect_runs.proofs.recorder.Starting.{count-is}
+use Rattle.ada_value.proofs.StaticLaws.{natural_integer as small}
 
 module _ (k : Recorder) (note : ℕ) (h : IsRecorder k note) where
   -- ---- the start

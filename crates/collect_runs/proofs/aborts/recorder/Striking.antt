@@ -2,15 +2,14 @@
 -- acceptor, and takes the branch of the task.
 use Rattle.std.proofs.Common.{◌≡◌, ℕ, zero, suc, pred, ◌+◌, ◌<◌, ◌≤◌, ◌==◌, Bool, true, false, List, [], ◌∷◌, ◌++◌, length, drop, slice_get, unwrap_or}
 use Rattle.std.proofs.Common.{Option, Some, None, if◌then◌else◌, refl, sym, ap, ap₂, ◌∙◌, arith}
-use Rattle.std.specs.Prelude.{pos, ◌&&◌, int_le, nat_lt, Result, Ok}
-use Rattle.std.proofs.lemmas.Bool.{le-leb}
+use Rattle.std.specs.Prelude.{pos, ◌&&◌, nat_lt, Result, Ok}
 use Rattle.std.proofs.lemmas.Bool.Decides.{nat_tests}
 use Rattle.event_machine.specs.declared.Event.TheVariants.{B}
 use Rattle.common_lemmas.proofs.Lists.{element_at}
-use Rattle.common_lemmas.proofs.Numbers.{equal_is, le_false, lt_true, lt_false}
+use Rattle.common_lemmas.proofs.Numbers.{equal_is, lt_true, lt_false}
 use Rattle.common_lemmas.proofs.Options.{some_same, not_missing}
 use Rattle.ada_tree.specs.declared.naming.Span.{Span}
-use Rattle.ada_tree.specs.PlainExpr.{EInteger, EName}
+use Rattle.ada_tree.specs.PlainExpr.{EName}
 use Rattle.ada_tree.specs.PlainStmt.{PCallee, SAbort, SIf, SNull, PStmts, no_stmt, stmt_then, PMaybe, absent, present, arm, no_arm, arm_then}
 use Rattle.ada_static_rules.specs.Scope.{integer_kind}
 use Rattle.ada_value.specs.declared.values.Limits.{Limits}
@@ -24,12 +23,12 @@ use Rattle.syn_event.specs.declared.numbering.TaskInfo.{TaskInfo}
 use Rattle.task_model.specs.Frames.{Around, Loop, Counting, PFrame, control, settled_in}
 use Rattle.task_model.specs.Tasks.{Task, gone_to, with_vars, pushed, or_raised}
 use Rattle.task_model.specs.Stands.{stepped}
-use Rattle.task_model.specs.Steps.{choice_end, lies_between, choices_fit, case_taken, counting_begun, loop_parameter, counted_on, loop_left, arm_taken}
+use Rattle.task_model.specs.Steps.{case_taken, counting_begun, loop_parameter, counted_on, loop_left, arm_taken}
 use Rattle.normal_model.specs.Making.{one}
 use Rattle.normal_model.specs.Ranges.{word_at}
 use Rattle.table_law.specs.States.{Comes}
-use Rattle.table_law.proofs.Numbers.{small, fitted-ok}
-use Rattle.table_law.proofs.Turning.{step-first, comes-on}
+use Rattle.table_law.proofs.Numbers.{fitted-ok}
+use Rattle.table_law.proofs.Turning.{step-first, comes-on, decided-other, decided-same, literal-fits}
 use Rattle.run_laws.specs.collecting.Notes.{flagged, text}
 use Rattle.collect_model.specs.Noting.{number}
 use Rattle.collect_model.specs.Recording.{flag_set}
@@ -43,26 +42,9 @@ use Rattle.collect_runs.proofs.aborts.recorder.Stepping.{tests, assigns, entry-a
 use Rattle.collect_runs.proofs.aborts.recorder.Valuing.{arm-by, literal-is, number-fits, meeting-is}
 use Rattle.collect_runs.proofs.aborts.recorder.Keeping.{body_around, around_body, body-holds, gone-kept}
 use Rattle.collect_runs.proofs.aborts.recorder.Finding.{with_gone, with_met, each_object, argument-is, each-is, turn-argument-is, turn-acceptors-named, turn-met-named, turn-met-set}
+use Rattle.ada_value.proofs.StaticLaws.{natural_integer as small}
 
 -- ---- the branch of a task
-
--- a number is a literal
-abbrev decided : ℕ → ℕ → Result Bool Raised
-decided m n = if int_le (pos m) (pos n) && int_le (pos n) (pos m) then Ok true else Ok false
-
-literal-fits : (t : Task) (s : Span) (m n : ℕ) → m ≤ 2147483647 → choices_fit t (Number (pos n)) (record { first = EInteger m s; last = None } ∷ []) ≡ decided m n
-literal-fits t s m n l =
-    ap (λ (r : Result Value Raised). and_then (and_then r (λ a. and_then (choice_end t None a) (λ b. Ok (lies_between a b (Number (pos n)))))) (λ (b : Bool). if b then Ok true else Ok false))
-    (fitted-ok (pos m) (small m l))
-
-decided-same : (m n : ℕ) → m ≤ n → n ≤ m → decided m n ≡ Ok true
-decided-same m n below above =
-    ap (λ (b : Bool). if b && int_le (pos n) (pos m) then Ok true else Ok false) (le-leb m n below) ∙ ap (λ (b : Bool). if b then Ok true else Ok false) (le-leb n m above)
-
-decided-other : (m n : ℕ) → m < n → decided m n ≡ Ok false
-decided-other m n below =
-    ap (λ (b : Bool). if b && int_le (pos n) (pos m) then Ok true else Ok false) (le-leb m n (omega (arith, below)))
-    ∙ ap (λ (b : Bool). if b then Ok true else Ok false) (le_false n m below)
 
 -- who is named so
 abbrev pub callee_named : Span → TaskInfo → PCallee

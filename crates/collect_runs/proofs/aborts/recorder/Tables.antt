@@ -1,9 +1,6 @@
 -- What the recorder keeps of each task, as the values of an array.
 use Rattle.std.proofs.Common.{◌≡◌, ℕ, zero, suc, ◌+◌, ◌<◌, ◌≤◌, ◌==◌, Bool, true, false, List, ◌∷◌, replicate, if◌then◌else◌, refl, sym, ap, ap₂, ◌∙◌, arith}
 use Rattle.std.specs.Prelude.{pos, slice_index_or, slice_set, Result, Ok, Some}
-use Rattle.std.specs.Ordering.{int_eq}
-use Rattle.std.proofs.lemmas.Bool.Decides.{nat_tests}
-use Rattle.std.proofs.lemmas.Int.{ints}
 use Rattle.common_lemmas.proofs.Numbers.{equal_is, equal_self, unequal_above}
 use Rattle.ada_static_rules.specs.Scope.{integer_kind}
 use Rattle.ada_tree.specs.declared.naming.NameId.{NameId}
@@ -63,11 +60,6 @@ value-set f v t (suc n) (suc j) x e l =
 pub values-all : (v : Value) (t n : ℕ) → replicate n v ≡ values_from (λ u. v) t n
 values-all v t zero = refl
 values-all v t (suc n) = ap (λ (vs : List Value). v ∷ vs) (values-all v (suc t) n)
-
--- ---- tests
-
-pub same-number : (a b : ℕ) → int_eq (pos a) (pos b) ≡ (a == b)
-same-number a b = grind (arith, ints, nat_tests)
 
 -- ---- arrays
 

@@ -1,7 +1,7 @@
 -- What the conditions of the recorder are worth, among any variables in which its names mean what they are to.
 use Rattle.std.proofs.Common.{◌≡◌, ℕ, ◌==◌, ◌≤◌, Bool, if◌then◌else◌, Option, Some, ap, ap₂, ◌∙◌, arith}
 use Rattle.std.specs.Prelude.{pos, ◌&&◌, Result, Ok, Err}
-use Rattle.table_law.proofs.Numbers.{small, fitted-ok}
+use Rattle.table_law.proofs.Numbers.{fitted-ok}
 use Rattle.ada_tree.specs.declared.naming.NameId.{NameId}
 use Rattle.ada_tree.specs.declared.expressions.BinaryOp.TheVariants.{And, Equal}
 use Rattle.ada_tree.specs.PlainExpr.{PExpr, EName, EBinary}
@@ -20,8 +20,10 @@ use Rattle.collect_model.specs.Noting.{number}
 use Rattle.collect_model.specs.aborts.Recording.{entry_for, stands, is_meeting}
 use Rattle.collect_runs.specs.aborts.recorder.Recorders.{Recorder, names_of, last_of}
 use Rattle.collect_runs.specs.aborts.recorder.States.{table_object, numbers_object}
-use Rattle.collect_runs.proofs.aborts.recorder.Tables.{table-read, same-number}
+use Rattle.collect_runs.proofs.aborts.recorder.Tables.{table-read}
 use Rattle.normal_laws.proofs.runs.waits.Choices.{truth-of}
+use Rattle.ada_value.proofs.StaticLaws.{natural_integer as small}
+use Rattle.replay_runs.proofs.controls.permits.Tests.{same-number}
 
 -- an arm is taken, or not, by its condition
 pub arm-by : (t : Task) (e : PExpr) (stmts : PStmts) (rest : PArms) (otherwise : PMaybe) (b : Bool) → evaluated t.setting.types (vars_of t) e ≡ Ok (Truth b) →

@@ -23,7 +23,6 @@ use Rattle.run_laws.specs.collecting.Copies.{telling}
 use Rattle.collect_model.specs.Teller.{task_of}
 use Rattle.collect_runs.specs.translation.Floors.{CollectFloor, main_body, plain_body, handled_body, taken_handler, accept_body as collect_body, AtTelling, unit_over, unit_left, body_over, body_left}
 use Rattle.collect_runs.specs.telling.Meetings.{is_null_next}
-use Rattle.collect_runs.proofs.telling.Standing.{not-left}
 use Rattle.collect_model.specs.aborts.Noting.{at_abort}
 use Rattle.collect_model.specs.aborts.Places.{with_place}
 use Rattle.collect_model.specs.aborts.AbortStmts.{abort_rewriter}
@@ -43,6 +42,7 @@ use Rattle.collect_runs.proofs.aborts.telling.Ending.{callers-alike, own-notes, 
 use Rattle.collect_runs.proofs.aborts.telling.Calling.{there, heard, plain-tells, conditional-tells, timed-tells}
 use Rattle.collect_runs.proofs.aborts.telling.Holding.{Stays}
 use Rattle.collect_runs.proofs.aborts.telling.Likening.{acts-like}
+use Rattle.replay_runs.proofs.controls.meanings.Pairs.{not-left}
 
 -- ---- offers
 

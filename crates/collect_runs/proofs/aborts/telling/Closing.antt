@@ -31,7 +31,7 @@ use Rattle.collect_runs.proofs.aborts.telling.Moving.{added-there, row-comes, ra
 use Rattle.collect_runs.proofs.aborts.telling.Placing.{MeanSame, mean-turned, callers-kept, places-kept, mean-front}
 use Rattle.collect_runs.proofs.aborts.telling.Leaving.{finished-callers}
 use Rattle.collect_runs.proofs.aborts.telling.Turning.{Stays, has-variables, stays-heard, leaves-loop}
-use Rattle.collect_runs.proofs.telling.Ending.{formals-left}
+use Rattle.replay_runs.proofs.controls.meanings.Ends.{formals-left}
 
 module _ (x : Texts) (can : CanTell x) (f : Form x) (t : ℕ) (added : ArePlacesAdded x.programs (teller x t) (x.places t)) (i : List ℤ) (w : List ℕ) (p : OpenPlace) (ps : List OpenPlace)
     (a : OpenAccept (unit_translation x t ps) (teller x t) p) where

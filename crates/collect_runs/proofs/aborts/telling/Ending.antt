@@ -30,7 +30,8 @@ use Rattle.collect_runs.specs.aborts.telling.Texts.{Texts, form, text, teller, u
 use Rattle.collect_runs.specs.aborts.telling.Forms.{Form}
 use Rattle.collect_runs.specs.aborts.telling.Meetings.{IsNoting, IsLeaving}
 use Rattle.collect_runs.proofs.aborts.telling.Noting.{hearing, going, notes}
-use Rattle.collect_runs.proofs.telling.Ending.{finals-same, finals-known, callers_of}
+use Rattle.collect_runs.proofs.telling.Ending.{callers_of}
+use Rattle.replay_runs.proofs.controls.meanings.Ends.{finals-known, finals-same}
 
 -- ---- callers
 

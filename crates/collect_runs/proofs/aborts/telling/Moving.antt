@@ -17,7 +17,7 @@ use Rattle.task_laws.proofs.translation.Locals.{step-in-loops, go-there, raise-t
 use Rattle.normal_laws.specs.runs.floors.NormalFloors.{no_floor}
 use Rattle.collect_runs.specs.translation.Floors.{ends_unit, unit_frame, unit_block, CollectFloor, main_body, plain_body, handled_body, taken_handler, accept_body as collect_body, AtTelling, unit_over, unit_left, body_over, body_left}
 use Rattle.collect_runs.specs.telling.Meetings.{ComesTo}
-use Rattle.collect_runs.proofs.telling.Standing.{is_plain, plain, not-left}
+use Rattle.collect_runs.proofs.telling.Standing.{is_plain}
 use Rattle.collect_runs.specs.aborts.translation.Rows.{Telling, telling_none, telling_then, telling_rows}
 use Rattle.collect_runs.specs.aborts.translation.Floors.{OpenPlace, innermost, BodyFloor, accept_body, floor_at, beyond_at, ArePlacesAdded, HasPlaces, KeepCallers}
 use Rattle.collect_runs.proofs.aborts.translation.Carried.{translates, abort_is_closed}
@@ -28,6 +28,7 @@ use Rattle.collect_runs.proofs.aborts.telling.Keeping.{settled-vars, block-vars,
 use Rattle.collect_runs.proofs.aborts.telling.Holding.{callers-stay}
 use Rattle.collect_runs.proofs.aborts.telling.Placing.{MeanSame, places-kept}
 use Rattle.collect_runs.proofs.aborts.telling.Pairs.{comes}
+use Rattle.replay_runs.proofs.controls.meanings.Pairs.{not-left, plain}
 
 -- ---- exceptions on floors
 

@@ -48,7 +48,7 @@ use Rattle.collect_runs.proofs.aborts.telling.Going.{assign-goes, refused-worth}
 use Rattle.collect_runs.proofs.aborts.telling.Turning.{Stays, has-variables, stays-set, stays-heard, tries-on}
 use Rattle.collect_runs.proofs.telling.Opening.{opened-settled}
 use Rattle.collect_runs.proofs.recorder.Finding.{truth-checked}
-use Rattle.collect_runs.proofs.telling.Ending.{formals-left}
+use Rattle.replay_runs.proofs.controls.meanings.Ends.{formals-left}
 
 -- ---- formals that open
 

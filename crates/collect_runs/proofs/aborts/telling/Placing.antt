@@ -1,6 +1,6 @@
 -- The variables of places: what is said of them stays where they mean the same, whatever goes to variables of other names, and behind the formals of an
 -- accept body as in front of them.
-use Rattle.std.proofs.Common.{true≢false, arith, ◌≡◌, ℕ, ◌<◌, ◌≤◌, Bool, true, false, cond, ◌==◌, if◌then◌else◌, List, [], ◌∷◌, ◌++◌, Some, refl, sym, ap, ◌∙◌}
+use Rattle.std.proofs.Common.{true≢false, arith, ◌≡◌, ℕ, ◌<◌, ◌≤◌, Bool, true, false, ◌==◌, if◌then◌else◌, List, [], ◌∷◌, ◌++◌, refl, sym, ap, ◌∙◌}
 use Rattle.std.proofs.lemmas.Bool.{eqb-true}
 use Rattle.common_lemmas.proofs.Numbers.{unequal_above, unequal_turned}
 use Rattle.ada_tree.specs.declared.naming.NameId.{NameId}
@@ -13,6 +13,7 @@ use Rattle.normal_laws.specs.runs.floors.NormalFloors.{AreOpen, none_open, open_
 use Rattle.normal_laws.proofs.runs.floors.Cells.{named-set_other, cell-any, cell-kept}
 use Rattle.collect_model.specs.aborts.AbortTeller.{AbortTeller}
 use Rattle.collect_runs.specs.aborts.translation.Floors.{IsPlace, ArePlacesAdded, OpenPlace, innermost, HasPlaces, KeepCallers, keep_none, keep_then}
+use Rattle.table_law.proofs.Found.{later-named as passed-one}
 
 -- ---- formals in front
 
@@ -23,10 +24,6 @@ old-apart b o old id fresh = go (o.name.0 == id.0) refl
     go : (t : Bool) → (o.name.0 == id.0) ≡ t → t ≡ false
     go false e = refl
     go true e = absurd (true≢false (sym old ∙ ap b.is_old (eqb-true o.name.0 id.0 e) ∙ fresh))
-
--- a variable of another name in front
-pub passed-one : (o : Object) (W : Variables) (id : NameId) → (o.name.0 == id.0) ≡ false → object_named (o ∷ W) id ≡ object_named W id
-passed-one o W id apart = ap (λ t. cond t (Some o) (object_named W id)) apart
 
 pub set-one : (o : Object) (W : Variables) (id : NameId) (k : ℕ) (v : Value) → (o.name.0 == id.0) ≡ false → set_value (o ∷ W) id k v ≡ o ∷ set_value W id k v
 set-one o W id k v apart = ap (λ t. if t then with_value o k v ∷ W else o ∷ set_value W id k v) apart

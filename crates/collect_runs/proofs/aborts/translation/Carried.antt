@@ -26,7 +26,7 @@ use Rattle.collect_runs.specs.aborts.translation.Laws.{AbortTranslates, AbortIsC
 use Rattle.collect_runs.proofs.aborts.translation.Counting.{at-most, grows_stmts, grows_handlers, same_body}
 use Rattle.collect_runs.proofs.aborts.translation.Rows.{rows, handler-rows, are-images}
 use Rattle.collect_runs.proofs.aborts.translation.Floors.{is-translation, is-closed, variables-there}
-use Rattle.collect_runs.proofs.translation.Carried.{own-settled}
+use Rattle.replay_runs.proofs.translation.Carried.{own-settled}
 
 pub translates : (a : Asked) (x : AbortTeller) (last : ℕ) (ps : List OpenPlace) → AreNamesAdded a.programs x.teller.added → AgreeOnTypes a.programs → IsTranslation (into_aborting a x last ps)
 translates a x last ps new types = is-translation a x last new types ps

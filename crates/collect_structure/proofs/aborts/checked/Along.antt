@@ -35,7 +35,6 @@ use Rattle.collect_structure.specs.Names as names
 use Rattle.collect_structure.specs.checked.Checkable.{IsOtherThanTruths, HasFewFormals}
 use Rattle.collect_structure.proofs.checked.Stays.{stay-out}
 use Rattle.collect_structure.proofs.checked.Along.{flags-met, int-io-met}
-use Rattle.collect_structure.proofs.checked.Bodies.{use-object}
 use Rattle.replay_structure.proofs.checked.Plain.{plain-decl, object-stays}
 use Rattle.collect_structure.proofs.checked.Tasks.{task-met}
 use Rattle.collect_model.specs.aborts.Places.{places_of, places_in, most_places}
@@ -53,7 +52,7 @@ use Rattle.collect_structure.proofs.aborts.checked.Bodies.{AreBehindTasks, mine,
 use Rattle.collect_structure.proofs.aborts.checked.Names.{longer}
 use Rattle.collect_structure.proofs.aborts.checked.Stays.{IsTextMet, UsesStay, stay-out as abort-out}
 use Rattle.replay_structure.proofs.checked.Stays.{IsFormMet}
-use Rattle.replay_structure.proofs.checked.Bodies.{frame-object}
+use Rattle.replay_structure.proofs.checked.Bodies.{frame-object, use-object}
 use Rattle.collect_structure.specs.aborts.Names.{kept_name}
 
 -- ---- declarations in front of the bodies

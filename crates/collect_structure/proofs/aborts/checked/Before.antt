@@ -24,12 +24,13 @@ use Rattle.collect_structure.specs.Names.{added_id}
 use Rattle.collect_structure.specs.checked.Checkable.{is_truth, IsOtherThanTruths}
 use Rattle.collect_structure.proofs.checked.Names.{added-other}
 use Rattle.collect_structure.proofs.checked.Stays as collect
-use Rattle.collect_structure.proofs.checked.Before.{recorder_unit, behind_added, single-none, units-decl, true-task, true-decl, unit-same}
+use Rattle.collect_structure.proofs.checked.Before.{recorder_unit, behind_added, true-task, true-decl, unit-same}
 use Rattle.collect_structure.specs.aborts.Names.{kept_name}
 use Rattle.collect_structure.specs.aborts.checked.Around.{kept_names}
 use Rattle.collect_structure.proofs.checked.Alike.{AreAlike, meant-alike, decl-alike, new-alike, new-object}
 use Rattle.collect_structure.proofs.aborts.checked.Bodies.{IsNewObject, AreBehindTasks}
 use Rattle.collect_structure.proofs.aborts.checked.Names.{still-kept}
+use Rattle.replay_structure.proofs.checked.Before.{single-none, units-decl}
 
 -- ---- along declarations
 

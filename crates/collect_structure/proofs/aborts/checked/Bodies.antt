@@ -32,7 +32,6 @@ use Rattle.collect_model.specs.CollectTree.{unit_declared, behind_own}
 use Rattle.collect_structure.specs.Names as collect
 use Rattle.collect_structure.specs.checked.Checkable.{is_truth}
 use Rattle.collect_structure.proofs.checked.Names.{added-other}
-use Rattle.collect_structure.proofs.checked.Bodies.{use-objects, frame-objects, callee-objects}
 use Rattle.collect_model.specs.aborts.Names.{taken_text, refused_text}
 use Rattle.collect_model.specs.aborts.Places.{most_places}
 use Rattle.collect_model.specs.aborts.AbortTeller.{AbortTeller}
@@ -46,7 +45,7 @@ use Rattle.collect_structure.proofs.aborts.checked.Asked.{y}
 use Rattle.collect_structure.proofs.aborts.checked.Names.{further-other, still-kept}
 use Rattle.collect_structure.proofs.aborts.texts.Listed.{all-places}
 use Rattle.collect_structure.proofs.aborts.texts.Named.{abort-has-places}
-use Rattle.replay_structure.proofs.checked.Bodies.{after_objects, objects-listed, objects-of}
+use Rattle.replay_structure.proofs.checked.Bodies.{after_objects, objects-listed, objects-of, callee-objects, frame-objects, use-objects}
 
 -- ---- the objects of a body
 

@@ -39,7 +39,7 @@ use Rattle.collect_model.specs.Lines.{header_text}
 use Rattle.collect_model.specs.CollectTree.{is_int_io, main_declared, task_telling, recorder_told}
 use Rattle.collect_structure.specs.Names as names
 use Rattle.collect_structure.specs.checked.Checkable.{IsOtherThanTruths, HasFewFormals}
-use Rattle.collect_structure.proofs.texts.Listed.{all-behind, all-main, one-tasks, one-bodies}
+use Rattle.collect_structure.proofs.texts.Listed.{all-behind, all-main}
 use Rattle.collect_structure.proofs.checked.Before.{behind_added}
 use Rattle.collect_structure.proofs.checked.Tasks.{recorder-met}
 use Rattle.collect_model.specs.aborts.AbortTeller.{AbortTeller, names_told, told_in}
@@ -58,8 +58,9 @@ use Rattle.collect_structure.proofs.aborts.texts.Listed.{all-places, abort-tells
 use Rattle.collect_structure.proofs.texts.Telling.{recorder_tasks, all-told-tasks, all-told-bodies, told-bodies, told-ids}
 use Rattle.collect_structure.proofs.aborts.texts.Named.{main-few, bodies-few}
 use Rattle.collect_structure.proofs.aborts.scopes.Inner.{main-told-is}
-use Rattle.collect_structure.proofs.checked.Whole.{bodies-same, entries-kept}
+use Rattle.collect_structure.proofs.checked.Whole.{entries-kept}
 use Rattle.replay_structure.proofs.checked.Stays.{IsFormMet}
+use Rattle.replay_structure.proofs.checked.Whole.{bodies-same, one-bodies, one-tasks}
 
 -- ---- the text
 

@@ -11,12 +11,14 @@ use Rattle.task_model.specs.Setting.{Setting}
 use Rattle.normal_model.specs.NormalTree.{variables_needed}
 use Rattle.normal_laws.specs.runs.forms.Normalisable.{made_for, numbers_of, setting_for}
 use Rattle.normal_laws.proofs.legality.declares_once.Whole.{normal_declares_once}
+use Rattle.replay_structure.proofs.declares_once.GoodNamed.{all-named-kept}
 use Rattle.collect_structure.proofs.declares_once.Legal as collect
-use Rattle.collect_structure.proofs.kept.Names.{begins_ded, good-text, no-ded, text-of-task, text-of-variable}
+use Rattle.collect_structure.proofs.kept.Names.{good-text, text-of-task, text-of-variable}
 use Rattle.collect_structure.specs.aborts.declares_once.Laws.{LegalAbortDeclaresOnce, LegalLeavesNames}
 use Rattle.collect_structure.specs.aborts.declares_once.Names.{IsOwn, is_left}
 use Rattle.collect_structure.proofs.aborts.declares_once.Few.{legal-has-few}
 use Rattle.collect_structure.proofs.aborts.declares_once.Whole.{abort_declares_once}
+use Rattle.replay_structure.proofs.declares_once.Texts.{begins_ded, no-ded}
 
 -- ---- texts
 
@@ -57,7 +59,7 @@ legal_leaves_names p h =
     record {
       begins = (collect.legal_leaves_names p h).begins;
       kept =
-          collect.all-named-kept p h (IsOwn (made_for p).names) (good-text g count Left original-left) (text-of-variable g count Left (λ k. refl))
+          all-named-kept p h (IsOwn (made_for p).names) (good-text g count Left original-left) (text-of-variable g count Left (λ k. refl))
           (text-of-task g count Left original-left (λ t u free. plain-left (t ++ (codes "_DED_" ++ u)) (member-plain t u free)));
       few = legal-has-few p h;
     }

@@ -14,9 +14,9 @@ use Rattle.normal_laws.specs.existence.Laws.{IsLegalOriginal}
 use Rattle.normal_laws.specs.runs.forms.Normalisable.{made_for, numbers_of}
 use Rattle.replay_structure.proofs.checkable.Ranges.{ranges-same}
 use Rattle.replay_structure.specs.checkable.Prepared.{form_for}
-use Rattle.collect_structure.proofs.kept.Declared.{declarations-kept}
-use Rattle.collect_structure.proofs.kept.Main.{main-kept}
-use Rattle.collect_structure.proofs.kept.Names.{IsKeeping}
+use Rattle.replay_structure.proofs.legal.Declared.{declarations-kept}
+use Rattle.replay_structure.proofs.legal.Kept.{main-kept}
+use Rattle.replay_structure.proofs.legal.Keeping.{IsKeeping}
 use Rattle.collect_structure.proofs.legal.Checkable.{legal_is_checkable, prepared}
 use Rattle.collect_structure.proofs.legal.Values.{same-values}
 use Rattle.collect_structure.specs.checked.Checkable.{is_truth}

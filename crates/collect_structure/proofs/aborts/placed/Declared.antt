@@ -49,7 +49,8 @@ use Rattle.collect_structure.proofs.placed.Made.{formal-placed}
 use Rattle.collect_structure.proofs.placed.Header.{name-content, header-content}
 use Rattle.collect_structure.proofs.placed.Recorded.{recorder-declared, unit-placed, main-placed}
 use Rattle.collect_structure.proofs.texts.Listed.{all-behind}
-use Rattle.collect_structure.proofs.placed.Declared.{list-placed, placed-list, IsNoBody, IsObject, objects-list, list-objects, main-no-bodies, pred-less, told-order}
+use Rattle.collect_structure.proofs.placed.Declared.{list-placed, placed-list, main-no-bodies, told-order}
+use Rattle.replay_structure.proofs.placed.Declared.{pred-less, IsNoBody, IsObject, list-objects, objects-list}
 
 -- ---- each declaration
 

@@ -30,8 +30,8 @@ use Rattle.collect_model.specs.Calling.{member_called, args_with}
 use Rattle.collect_model.specs.Serving.{caller_formal}
 use Rattle.collect_structure.specs.placed.Placeable.{HasLists, tell_asks}
 use Rattle.collect_structure.proofs.placed.Named.{AreAdded}
-use Rattle.collect_structure.proofs.placed.Made.{formal-placed, entry-few}
-use Rattle.replay_structure.proofs.placed.Made.{number-few}
+use Rattle.collect_structure.proofs.placed.Made.{formal-placed}
+use Rattle.replay_structure.proofs.placed.Made.{number-few, entry-few}
 use Rattle.collect_model.specs.aborts.AbortTeller.{AbortTeller}
 use Rattle.collect_model.specs.aborts.Calling.{is_part}
 use Rattle.collect_model.specs.aborts.Serving.{is_not_refused}

@@ -36,8 +36,8 @@ use Rattle.replay_structure.proofs.legal.names.form_names.Decls.{body-of, variab
 use Rattle.replay_structure.proofs.legal.names.form_names.TypeNames.{kinds-own}
 use Rattle.replay_structure.specs.legal.names.form_names.Laws.{IsNamedBody}
 use Rattle.replay_structure.specs.legal.names.form_units.Inner.{inner_name}
-use Rattle.collect_structure.proofs.kept.Main.{first-kept}
-use Rattle.collect_structure.proofs.kept.Names.{IsKeeping}
+use Rattle.replay_structure.proofs.legal.Kept.{first-kept}
+use Rattle.replay_structure.proofs.legal.Keeping.{IsKeeping}
 use Rattle.collect_structure.proofs.legal.Asked.{told-asked}
 use Rattle.collect_structure.proofs.legal.Free.{HasFree, bodies-free, main-free}
 use Rattle.collect_structure.proofs.legal.Indices.{HasOuterIndices, bodies-indices, main-indices}

@@ -36,7 +36,7 @@ use Rattle.collect_model.specs.aborts.AbortTeller.{AbortTeller}
 use Rattle.collect_model.specs.aborts.AbortTree.{abort_decl, places_declared}
 use Rattle.collect_model.specs.aborts.Names.{refused_text, taken_text}
 use Rattle.collect_model.specs.aborts.Places.{most_places}
-use Rattle.collect_structure.proofs.aborts.placed.Texts.{AllDigits, decimal-digits}
+use Rattle.collect_structure.proofs.aborts.placed.Texts.{decimal-digits}
 use Rattle.collect_structure.proofs.aborts.scopes.Places.{AreValueless, EachPlace, HasPlaces, IsBeside, each-place}
 use Rattle.collect_structure.proofs.aborts.texts.Listed.{all-places}
 use Rattle.collect_structure.proofs.aborts.texts.Named.{abort-has, abort-has-places}
@@ -44,6 +44,7 @@ use Rattle.collect_structure.proofs.aborts.typed.Declared.{behind-language, plac
 use Rattle.collect_structure.proofs.aborts.typed.Names.{same-added, two-apart}
 use Rattle.collect_structure.specs.aborts.scopes.Text.{main_told}
 use Rattle.collect_structure.specs.aborts.typed.Told.{AreNewPlaces}
+use Rattle.normal_laws.proofs.structure.placed.Texts.{AllDigits}
 
 -- ---- the texts of places
 

@@ -14,7 +14,7 @@ use Rattle.normal_laws.specs.runs.forms.Normalisable.{numbers_of, setting_for, m
 use Rattle.normal_laws.proofs.structure.numbers.Named.{text-longer, own-within, own-not-added}
 use Rattle.normal_laws.proofs.structure.numbers.TaskNames.{normal-begins}
 use Rattle.collect_structure.proofs.kept.Names as plain
-use Rattle.collect_structure.proofs.kept.Names.{IsKeeping}
+use Rattle.replay_structure.proofs.legal.Keeping.{IsKeeping}
 use Rattle.collect_structure.specs.Names as collect
 use Rattle.collect_structure.specs.aborts.Names.{is_further, kept_name}
 use Rattle.common_lemmas.proofs.Truth.{and_false}

@@ -8,10 +8,10 @@ use Rattle.normal_laws.specs.runs.forms.Normalisable.{made_for}
 use Rattle.normal_laws.specs.existence.Laws.{IsLegalOriginal}
 use Rattle.normal_laws.proofs.legality.checks.Facts as facts
 use Rattle.replay_structure.proofs.checkable.Kept.{rules_of}
-use Rattle.collect_structure.proofs.kept.Names.{IsKeeping}
-use Rattle.collect_structure.proofs.kept.Main.{main-kept}
-use Rattle.collect_structure.proofs.kept.Declared.{declarations-kept}
-use Rattle.collect_structure.proofs.scopes.Owned.{every-unlisted}
+use Rattle.replay_structure.proofs.legal.Keeping.{IsKeeping}
+use Rattle.replay_structure.proofs.legal.Kept.{main-kept}
+use Rattle.replay_structure.proofs.legal.Declared.{declarations-kept}
+use Rattle.replay_structure.proofs.legal.names.form_names.Owned.{every-unlisted}
 
 -- All names are such ones.
 pub all-owned : (p : PProgram) (h : IsLegalOriginal p) (kept : ℕ → Bool) → IsKeeping p kept → EveryProgram (own_rules kept) (made_for p)

@@ -1,21 +1,18 @@
 -- What the recorder of a collecting text does when a task aborts another meets the static rules 1 and 3 to 12: it marks the callers whose rendezvous is lost, and aborts the task, by its name.
 use Rattle.std.proofs.Common.{Bool, List, None, Some, [], ap, arith, drop, eq-eqb, false, if◌then◌else◌, int_le, length, negsuc, pos, refl, subst, sym, true, ℕ, ◌&&◌, ◌+◌, ◌++◌, ◌==◌, ◌∙◌, ◌∷◌, ◌≡◌, ◌≤◌}
-use Rattle.std.proofs.lemmas.Bool.{or_from}
 use Rattle.std.proofs.lemmas.Int.{ints}
-use Rattle.std.specs.List.{AllByRecursion, list_any}
-use Rattle.common_lemmas.proofs.Lists.{all_joined, all_three, all_weaker, found_at, found_passes, found_some}
-use Rattle.common_lemmas.proofs.Numbers.{equal_is}
+use Rattle.std.specs.List.{AllByRecursion}
+use Rattle.common_lemmas.proofs.Lists.{all_joined, all_three, all_weaker}
 use Rattle.ada_tree.specs.Lexical.{IsInteger as IsLiteral}
 use Rattle.ada_tree.specs.PlainExpr.{EBinary, EInteger, EName, PExpr}
 use Rattle.ada_tree.specs.PlainStmt.{PArms, PCaseArms, PChoice, PMaybe, PStmt, PStmts, SAbort, SCase, SIf, SNull, absent, arm, arm_then, no_arm, present}
 use Rattle.ada_tree.specs.declared.expressions.BinaryOp.TheVariants as binary
 use Rattle.ada_tree.specs.declared.naming.NameId.{NameId}
 use Rattle.ada_tree.specs.declared.naming.Span.{Span}
-use Rattle.ada_tree.specs.declared.static_types.Mark.{Mark}
 use Rattle.ada_static_rules.specs.Declaring.{drange_kind, first_mark_of, inner_scope, loop_thing, with_loop_parameter}
 use Rattle.ada_static_rules.specs.ExprTypes.{kind_of, name_kind}
-use Rattle.ada_static_rules.specs.RuleChoiceBad.{bad_choices, choice_span, do_overlap, mark_of_object, mark_of_thing, overlapping, selected_range}
-use Rattle.ada_static_rules.specs.Scope.{LoopParameter, Range, Scope, and_then, integer_kind, kind_at, mark_at, meaning, range_of_mark, reading_of, reading_of_mark, truth_kind, AsScalar}
+use Rattle.ada_static_rules.specs.RuleChoiceBad.{bad_choices, choice_span, mark_of_object, mark_of_thing, overlapping, selected_range}
+use Rattle.ada_static_rules.specs.Scope.{LoopParameter, Range, Scope, and_then, integer_kind, kind_at, meaning, range_of_mark, reading_of, reading_of_mark, truth_kind, AsScalar}
 use Rattle.ada_static_rules.specs.Sites.{arm_choices, arms_sites, callee_sites, case_arms_sites, choice_sites, condition_sites, drange_sites, expr_of, expr_sites, maybe_sites, names_sites, stmt_sites, stmts_sites}
 use Rattle.syn_event.specs.declared.numbering.TaskInfo.{TaskInfo}
 use Rattle.task_laws.proofs.legal.alike_scopes.Marks.{scalar-reading}
@@ -44,6 +41,7 @@ use Rattle.collect_model.specs.aborts.AbortTeller.{AbortTeller}
 use Rattle.collect_model.specs.aborts.Recording.{abort_made, aborts_from, callers_lost, entry_for, is_meeting, lost, meeting, stands, stands_now}
 use Rattle.collect_structure.proofs.aborts.typed.Tables.{entry-fit, entry-kind, entry-set-met, formal-read, from_main, numbers-compared, range-met, read-fit, read-step, table-step}
 use Rattle.collect_structure.specs.aborts.typed.Recording.{IsRead, IsTable}
+use Rattle.replay_structure.proofs.typed.Turning.{counter-mark, IsBelow, none-overlap}
 
 -- ---- statements
 
@@ -81,14 +79,6 @@ meeting-loose d x s u v met acceptors i j =
     and-loose d s (stands x.teller.added s u meeting) (EBinary binary.Equal (entry_for s x.acceptors u) (EName v s) s) (stands-loose d s x.teller.added met u i meeting) same.fit
 
 -- ---- the callers of a task that is aborted
-
--- the first mark of numbers
-counter-mark : (d : Scope) → IsInteger d → (j : ℕ) × (m : Mark) × (first_mark_of d.types integer_kind ≡ Some j) × (mark_at d.types j ≡ Some m) × (m.kind ≡ integer_kind)
-counter-mark d int =
-    let test : Mark → Bool = λ m. m.kind == integer_kind in
-    let some = found_some test d.types.marks int.its.place int.its.mark int.its.there (eq-eqb int.its.mark.kind integer_kind int.its.kind) in
-    let at = found_at test d.types.marks some.0 some.1 in
-    (at.0, some.0, at.1, at.2, equal_is some.0.kind integer_kind (found_passes test d.types.marks some.0 some.1))
 
 module _ (x : AbortTeller) (d : Scope) (s : Span) (int : IsInteger d) (met : IsTable d x.teller.added.met) (acceptors : IsTable d x.acceptors) (argument : IsInNumber d x.teller.added.argument) where
   abbrev n : AddedNames
@@ -138,21 +128,6 @@ module _ (x : AbortTeller) (d : Scope) (s : Span) (int : IsInteger d) (met : IsT
       (one-met looping s (stands_now n s x.each lost) (stands-now-met looping s n met-inside x.each each-seen lost)) tt) tt))
 
 -- ---- choices of one value each
-
--- the values of a choice lie below the next ones
-abbrev IsBelow : ℕ → Range → Type 0
-IsBelow v r = int_le (pos v) r.last ≡ false
-
-third-false : (a b c d : Bool) → c ≡ false → (a && b && c && d) ≡ false
-third-false true true c d e = ap (λ t. t && d) e
-third-false true false c d e = refl
-third-false false b c d e = refl
-
-none-overlap : (v : ℕ) (seen : List Range) → AllByRecursion (IsBelow v) seen → list_any (do_overlap (record { kind = integer_kind; first = pos v; last = pos v })) seen ≡ false
-none-overlap v [] h = refl
-none-overlap v (r ∷ seen) h =
-    or_from (do_overlap (record { kind = integer_kind; first = pos v; last = pos v }) r) (list_any (do_overlap (record { kind = integer_kind; first = pos v; last = pos v })) seen)
-    (third-false (int_le (pos v) (pos v)) (int_le r.first r.last) (int_le (pos v) r.last) (int_le r.first (pos v)) h.0) (none-overlap v seen h.1)
 
 next-below : (v : ℕ) (r : Range) → IsBelow v r → IsBelow (v + 1) r
 next-below v r h = grind (arith, ints)

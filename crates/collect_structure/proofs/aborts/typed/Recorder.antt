@@ -21,7 +21,7 @@ use Rattle.ada_static_rules.specs.Sites.{accept_sites, body_sites, decl_sites, h
 use Rattle.syn_event.specs.declared.numbering.TaskInfo.{TaskInfo}
 use Rattle.task_laws.proofs.legal.alike_scopes.Marks.{values-reading}
 use Rattle.task_laws.proofs.legal.rewritten_types.Keeping.{grows-self, keeps-array_kind, keeps-mark, keeps-on, keeps-self, unnamed}
-use Rattle.task_laws.proofs.legal.types.GoodScopes.{IsIn, names-kept, names-new}
+use Rattle.task_laws.proofs.legal.types.GoodScopes.{IsIn, names-kept, names-new, in-later as in-behind}
 use Rattle.task_laws.specs.legal.alike_scopes.Laws.{IsMetBut}
 use Rattle.task_laws.specs.legal.rewritten_types.Agreement.{IsScalar, Keeps}
 use Rattle.normal_model.specs.Making.{one}
@@ -49,7 +49,8 @@ use Rattle.collect_model.specs.aborts.Recording.{calls_declared, note_accept, no
 use Rattle.collect_structure.proofs.aborts.typed.Noted.{IsTaking, note-taken-met}
 use Rattle.collect_structure.proofs.aborts.typed.Tables.{place, table-grows, table-seen, table-step, table_types, tables-declared-behind, tables-declared-met}
 use Rattle.collect_structure.specs.aborts.typed.Recording.{AreApart, IsNone, IsTable, formal_names}
-use Rattle.collect_structure.proofs.typed.Recorder.{AreOther, in-front, in-behind, behind-none, new-other, five-predefined, five-gone, five-met, same-formals}
+use Rattle.collect_structure.proofs.typed.Recorder.{AreOther, behind-none, new-other, five-predefined, five-gone, five-met, same-formals}
+use Rattle.normal_laws.proofs.legality.scopes.Kept.{word-in as in-front}
 
 -- tasks that can be seen
 abbrev pub AreSeen : Scope → List TaskInfo → Type 0

@@ -1,5 +1,5 @@
 -- The tables of the recorder of a collecting text of a program with abort statements meet the static rules 1 and 3 to 12: their declaration, an entry of one as a number, comparisons of numbers, and assignments to an entry.
-use Rattle.std.proofs.Common.{Bool, List, None, Ok, Option, Some, [], ap, ap₂, arith, false, if◌then◌else◌, int_lt, is_some, length, pos, refl, subst, sym, true, ℕ, ℤ, ◌&&◌, ◌++◌, ◌==◌, ◌∙◌, ◌∷◌, ◌≡◌}
+use Rattle.std.proofs.Common.{Bool, List, None, Ok, Option, Some, [], ap, ap₂, arith, false, if◌then◌else◌, int_lt, is_some, length, pos, refl, subst, sym, true, ℕ, ℤ, ◌&&◌, ◌++◌, ◌∙◌, ◌∷◌, ◌≡◌}
 use Rattle.std.proofs.lemmas.Int.{ints}
 use Rattle.common_lemmas.proofs.Lists.{all_joined, last_at}
 use Rattle.ada_tree.specs.PlainDecl.{DObject, IOthers, OArray, PDecl, PInit, PShape}
@@ -17,7 +17,7 @@ use Rattle.ada_tree.specs.declared.static_types.Kind.TheVariants.{Array}
 use Rattle.ada_tree.specs.declared.static_types.Mark.{Mark}
 use Rattle.ada_static_rules.specs.Declaring.{Declared, add_kind, add_mark, after_own_object, array_object, declared_object, drange_range, made_array, of_made, subind_made, with_constants, with_names, with_types}
 use Rattle.ada_static_rules.specs.Demand.{Site, for_array, initializes, must_be_alike, must_not_be_empty, node}
-use Rattle.ada_static_rules.specs.ExprTypes.{binary_kind, component_kind, expr_place, is_other_kind, kind_of, name_kind, nodes, of_any_kind, takes}
+use Rattle.ada_static_rules.specs.ExprTypes.{binary_kind, component_kind, is_other_kind, kind_of, name_kind, nodes, of_any_kind, takes}
 use Rattle.ada_static_rules.specs.RuleArgCount.{index_on_scalar}
 use Rattle.ada_static_rules.specs.RuleArrayUse.{whole_array}
 use Rattle.ada_static_rules.specs.RuleMismatch.{misfit_index, misfit_operand, no_value, target_kind}
@@ -39,28 +39,16 @@ use Rattle.normal_laws.proofs.structure.typed.Tests.{IsMetNode, loose}
 use Rattle.normal_laws.proofs.structure.typed.Variables.{AllMetBut, of-kind, words-met}
 use Rattle.replay_structure.proofs.typed.Calls.{number-met}
 use Rattle.replay_structure.proofs.typed.Control.{integer-mark, integer-range}
-use Rattle.replay_structure.proofs.typed.Tests.{IsFit, IsLoose}
+use Rattle.replay_structure.proofs.typed.Tests.{IsFit, IsLoose, compared-fits, compared-kind}
 use Rattle.replay_structure.specs.typed.Controller.{IsInteger}
 use Rattle.collect_model.specs.Noting.{number}
-use Rattle.collect_structure.proofs.typed.Truths.{form-met, no-constant, value-met}
+use Rattle.collect_structure.proofs.typed.Truths.{form-met, value-met}
 use Rattle.collect_structure.specs.typed.Recording.{IsInNumber, integer_values}
 use Rattle.collect_model.specs.aborts.Recording.{entry_for, entry_set}
 use Rattle.collect_structure.specs.aborts.typed.Recording.{IsRead, IsTable}
+use Rattle.task_laws.proofs.legal.rewritten_types.Moving.{no_constants as no-constant}
 
 -- ---- comparisons
-
-no-other : (b : Bool) → is_other_kind (Some truth_kind) (if b then Some truth_kind else None) ≡ false
-no-other true = refl
-no-other false = refl
-
-compared-kind : (a b : Option ℕ) → is_other_kind (Some truth_kind) (binary_kind of_any_kind a b) ≡ false
-compared-kind None b = refl
-compared-kind (Some k) None = refl
-compared-kind (Some k) (Some j) = no-other (k == j)
-
-compared-fits : (k : ℕ) (b : Option ℕ) (l r : PExpr) → is_other_kind (Some k) b ≡ false → misfit_operand of_any_kind (Some k) b l r ≡ []
-compared-fits k None l r e = refl
-compared-fits k (Some j) l r e = ap (λ t. if t then expr_place r ∷ [] else []) e
 
 -- a number that is not static, compared with a number
 pub numbers-compared : (d : Scope) (op : BinaryOp) → takes op ≡ of_any_kind → (l r : PExpr) (s : Span) → IsFit d integer_kind l → kind_of d l ≡ Some integer_kind → is_static d.types l ≡ false →

@@ -124,7 +124,7 @@ types-same None (Some n) e = absurd (not_missing _ e)
 types-same None None e = refl
 
 -- what the first of some names means behind them is as valued in both scopes
-word-in : (w : Word) (ws : List Word) → IsIn (w ∷ ws) w.name
+pub word-in : (w : Word) (ws : List Word) → IsIn (w ∷ ws) w.name
 word-in w ws = or_front (w.name.0 == w.name.0) _ (equal_self w.name.0)
 
 first-valued : (th th' : Thing) (w : Word) (ws : List Word) (s r : Scope) → Close (with_names th s (w ∷ ws)) (with_names th' r (w ∷ ws)) → valued (Some th) ≡ valued (Some th')

@@ -77,7 +77,7 @@ reaches-behind (reaches_by κ κ1 steps out h) r = reaches_by κ _ steps out (re
 -- ---- the branch of a member
 
 -- a position lies between another and itself where the two are the same
-eq-le : (z i : ℤ) → (int_le i z && int_le z i) ≡ int_eq z i
+pub eq-le : (z i : ℤ) → (int_le i z && int_le z i) ≡ int_eq z i
 eq-le z i = grind (arith, Decides-int_eq)
 
 some-is : (c d : TaskInfo) → Some c ≡ Some d → c ≡ d

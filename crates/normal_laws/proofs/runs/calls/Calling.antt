@@ -58,16 +58,16 @@ abbrev pub index_passed : Setting → Span → ℕ → Option PExpr → Option P
 index_passed g s k None = None
 index_passed g s k (Some e) = Some (variable g s k)
 
-passed-none : (g : Setting) (s : Span) (xs : List Slot) (k : ℕ) → actuals_passed g s xs [] k ≡ []
+pub passed-none : (g : Setting) (s : Span) (xs : List Slot) (k : ℕ) → actuals_passed g s xs [] k ≡ []
 passed-none g s [] k = refl
 passed-none g s (x ∷ xs) k = refl
 
-passed-second : (g : Setting) (s : Span) (xs : List Slot) (k : ℕ) (second : Option (List PExpr)) →
+pub passed-second : (g : Setting) (s : Span) (xs : List Slot) (k : ℕ) (second : Option (List PExpr)) →
     unwrap_or (option_map (λ es. actuals_passed g s xs es k) second) [] ≡ actuals_passed g s xs (unwrap_or second []) k
 passed-second g s xs k None = sym (passed-none g s xs k)
 passed-second g s xs k (Some es) = refl
 
-lists-passed : (g : Setting) (s : Span) (c : PCall) (n : ℕ) {f : Bool} {args : Option PArgs} {index : Option PExpr} {actuals : List PExpr} → HasLists f args index actuals →
+pub lists-passed : (g : Setting) (s : Span) (c : PCall) (n : ℕ) {f : Bool} {args : Option PArgs} {index : Option PExpr} {actuals : List PExpr} → HasLists f args index actuals →
     is_family g.numbers (entry_called g c) ≡ f → (numbers : Numbering) (e : ℕ) → is_family numbers e ≡ f →
     lists_of numbers e (args_passed g s c n args) ≡ record { index = index_passed g s (index_number g s c n) index; actuals = actuals_passed g s (slots_called g c) actuals (actual_number g s c n) }
 lists-passed g s c n no_lists k numbers e h = ap (λ l. record { index = None; actuals = l }) (sym (passed-none g s (slots_called g c) (actual_number g s c n)))
@@ -85,7 +85,7 @@ family-has (plain_lists args) e h = cc
 family-has (family_lists d second) e h = refl
 
 -- the lists have old names
-lists-old : (b : Programs) {f : Bool} {args : Option PArgs} {index : Option PExpr} {actuals : List PExpr} → HasLists f args index actuals → OldArgs b args → OldOption b index × OldExprs b actuals
+pub lists-old : (b : Programs) {f : Bool} {args : Option PArgs} {index : Option PExpr} {actuals : List PExpr} → HasLists f args index actuals → OldArgs b args → OldOption b index × OldExprs b actuals
 lists-old b no_lists h = (old_none, old_no_expr)
 lists-old b (plain_lists args) (old_args a first second) = (old_none, first)
 lists-old b (family_lists d second) (old_args a (old_expr e rest old k) more) = (old_some d old, row more)
@@ -95,17 +95,17 @@ lists-old b (family_lists d second) (old_args a (old_expr e rest old k) more) = 
     row (old_list es h) = h
 
 -- actuals of old names are due so
-due-old : (b : Programs) (m : ParMode) (e : PExpr) (ds : List (Option PExpr)) → OldExpr b e → OldDues b ds → OldDues b (due_of m e ∷ ds)
+pub due-old : (b : Programs) (m : ParMode) (e : PExpr) (ds : List (Option PExpr)) → OldExpr b e → OldDues b ds → OldDues b (due_of m e ∷ ds)
 due-old b Take e ds old h = old_due e ds old h
 due-old b Give e ds old h = old_passed ds h
 due-old b Both e ds old h = old_due e ds old h
 
-dues-old : (b : Programs) (xs : List Slot) {es : List PExpr} → OldExprs b es → OldDues b (actual_dues xs es)
+pub dues-old : (b : Programs) (xs : List Slot) {es : List PExpr} → OldExprs b es → OldDues b (actual_dues xs es)
 dues-old b [] h = old_no_due
 dues-old b (x ∷ xs) old_no_expr = old_no_due
 dues-old b (x ∷ xs) (old_expr e es old h) = due-old b x.mode e (actual_dues xs es) old (dues-old b xs h)
 
-option-old : (b : Programs) {o : Option PExpr} → OldOption b o → {ds : List (Option PExpr)} → OldDues b ds → OldDues b (dues_of o ++ ds)
+pub option-old : (b : Programs) {o : Option PExpr} → OldOption b o → {ds : List (Option PExpr)} → OldDues b ds → OldDues b (dues_of o ++ ds)
 option-old b old_none h = h
 option-old b (old_some e old) {ds} h = old_due e ds old h
 

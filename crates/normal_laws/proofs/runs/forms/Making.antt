@@ -61,7 +61,7 @@ same-length f (x ∷ xs) [] h = absurd (let none : ⊥ = some-none (h 0) in none
     some-none e = cc
 same-length f (x ∷ xs) (y ∷ ys) h = ap suc (same-length f xs ys (λ t. h (suc t)))
 
-beside : {A : Type 0} (xs : List A) (t : ℕ) → slice_get xs (suc t) ≡ slice_get (drop 1 xs) t
+pub beside : {A : Type 0} (xs : List A) (t : ℕ) → slice_get xs (suc t) ≡ slice_get (drop 1 xs) t
 beside [] t = refl
 beside (x ∷ xs) t = refl
 

@@ -13,12 +13,9 @@ use Rattle.task_model.specs.Waits.{Open, Accepts, Delays, Terminates, guard_hold
 use Rattle.normal_model.specs.Waits.{guard_then, all_guards}
 use Rattle.normal_laws.specs.runs.floors.Suited.{Rewritten}
 use Rattle.normal_laws.proofs.runs.waits.Alternatives.{OpensAlike, no_opens, open_more}
+use Rattle.syn_event.proofs.Nothing.{append_nothing as both-none}
 
 -- ---- choices
-
-both-none : {A : Type 0} (xs ys : List A) → xs ++ ys ≡ [] → (xs ≡ []) × (ys ≡ [])
-both-none [] ys e = (refl, e)
-both-none (x ∷ xs) ys e = cc
 
 -- what is mapped to nothing in a list of which nothing is left
 none-left : (f : Open → Option Choice) (op : Open) (ops : List Open) → cons_option (f op) (filter_map f ops) ≡ [] → (f op ≡ None) × (filter_map f ops ≡ [])

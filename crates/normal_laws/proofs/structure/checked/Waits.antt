@@ -20,7 +20,7 @@ use Rattle.normal_model.specs.NormalStmts.{normal_rewriter}
 
 -- ---- the kinds of alternatives
 
-count-step : (p : PAltKind → Bool) (x y : PAltKind) (xs ys : List PAltKind) → p x ≡ p y → count_by p xs ≡ count_by p ys → count_by p (x ∷ xs) ≡ count_by p (y ∷ ys)
+pub count-step : (p : PAltKind → Bool) (x y : PAltKind) (xs ys : List PAltKind) → p x ≡ p y → count_by p xs ≡ count_by p ys → count_by p (x ∷ xs) ≡ count_by p (y ∷ ys)
 count-step p x y xs ys e f =
     sum_by-cons (λ z. cond (p z) 1 0) x xs ∙ ap (λ t. cond t 1 0 + count_by p xs) e ∙ ap (λ n. cond (p y) 1 0 + n) f ∙ sym (sum_by-cons (λ z. cond (p z) 1 0) y ys)
 

@@ -12,7 +12,7 @@ prefix-alike : {A : Type 0} (f g : A → Bool) (xs : List A) → AllByRecursion 
 prefix-alike f g [] h = refl
 prefix-alike f g (x ∷ xs) h = ap₂ (λ (b : Bool) n. cond (not b) (1 + n) 0) h.0 (prefix-alike f g xs h.1)
 
-place-alike : {A : Type 0} (f g : A → Bool) (xs : List A) → AllByRecursion (λ x. f x ≡ g x) xs → position f xs ≡ position g xs
+pub place-alike : {A : Type 0} (f g : A → Bool) (xs : List A) → AllByRecursion (λ x. f x ≡ g x) xs → position f xs ≡ position g xs
 place-alike f g xs h = ap (λ n. cond (nat_lt n (length xs)) (Some n) None) (prefix-alike f g xs h)
 
 module _ (before names : List (List ℕ)) (begins : Begins before names) where

@@ -15,14 +15,14 @@ use Rattle.common_lemmas.proofs.Truth.{and_left, and_right, or_both}
 -- ---- digits
 
 -- digits alone stand in the text
-abbrev AllDigits : List ℕ → Type 0
+abbrev pub AllDigits : List ℕ → Type 0
 AllDigits t = AllByRecursion (λ b. is_digit b ≡ true) t
 
 abbrev IsFilled : List ℕ → Type 0
 IsFilled [] = ⊥
 IsFilled (b ∷ bs) = Unit {0}
 
-digit-glyph : (d : ℕ) → d < 10 → is_digit (digit_glyph false d) ≡ true
+pub digit-glyph : (d : ℕ) → d < 10 → is_digit (digit_glyph false d) ≡ true
 digit-glyph d l =
     ap (λ (b : Bool). is_digit (if b then 48 + d else 87 + d)) (lt-ltb d 10 l)
     ∙ ap (λ b. b && nat_le (48 + d) 57) (le-leb 48 (48 + d) (omega arith))
@@ -68,14 +68,14 @@ decimal-short n l = length-decimal-le 20 n (omega arith) (omega (arith, l)) l
 -- ---- words
 
 -- a digit is no underscore
-digit-plain : (b : ℕ) → is_digit b ≡ true → (b == 95) ≡ false
+pub digit-plain : (b : ℕ) → is_digit b ≡ true → (b == 95) ≡ false
 digit-plain b h = by_test (b == 95) refl
   where
     by_test : (t : Bool) → (b == 95) ≡ t → t ≡ false
     by_test false e = refl
     by_test true e = grind (arith, nat_tests)
 
-digits-go : (ds : List ℕ) → AllDigits ds → goes_on false ds ≡ true
+pub digits-go : (ds : List ℕ) → AllDigits ds → goes_on false ds ≡ true
 digits-go [] h = refl
 digits-go (d ∷ ds) h =
     ap (λ t. if t then not false && goes_on true ds else (is_upper_letter d || is_digit d) && goes_on false ds) (digit-plain d h.0)

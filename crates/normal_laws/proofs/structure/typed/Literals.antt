@@ -152,7 +152,7 @@ truth-position k z e = by_test (int_eq z (pos 0)) e
 at-least : (a c d : ℤ) → int_le a c ≡ true → int_le c d ≡ true → int_le a d ≡ true
 at-least a c d e f = grind (arith, ints)
 
-within-values : (f l z : ℤ) → is_integer_value f ≡ true → is_integer_value l ≡ true → int_le f z ≡ true → int_le z l ≡ true → is_integer_value z ≡ true
+pub within-values : (f l z : ℤ) → is_integer_value f ≡ true → is_integer_value l ≡ true → int_le f z ≡ true → int_le z l ≡ true → is_integer_value z ≡ true
 within-values f l z a c d e = grind (arith, ints)
 
 -- ---- all kinds

@@ -1,7 +1,6 @@
 -- The laws of the variables of a normal form's tasks, from their parts.
-use Rattle.std.proofs.Common.{◌≡◌, ℕ, ◌<◌, ℤ, int_le, ◌&&◌, ◌==◌, Bool, true, false, not, nat_lt, [], is_none, Option, Some, Ok, refl, sym, ap, subst, arith}
+use Rattle.std.proofs.Common.{◌≡◌, ℕ, ◌<◌, ℤ, int_le, ◌&&◌, ◌==◌, Bool, false, not, nat_lt, [], is_none, Option, Some, Ok, refl, sym, ap, subst}
 use Rattle.std.specs.List.{AllByRecursion}
-use Rattle.std.proofs.lemmas.Int.{ints}
 use Rattle.common_lemmas.proofs.Truth.{and_left, and_right}
 use Rattle.ada_tree.specs.declared.naming.NameId.{NameId}
 use Rattle.ada_tree.specs.declared.naming.Span.{Span}
@@ -9,7 +8,7 @@ use Rattle.ada_tree.specs.TypeTable.{TypeTable}
 use Rattle.ada_tree.specs.PlainExpr.{EName}
 use Rattle.ada_tree.specs.PlainProgram.{PProgram}
 use Rattle.ada_static_rules.specs.Refusals.{types_in}
-use Rattle.ada_static_rules.specs.StaticValue.{is_integer_value, mark_named}
+use Rattle.ada_static_rules.specs.StaticValue.{mark_named}
 use Rattle.ada_static_rules.specs.Declaring.{first_scope, after_decls}
 use Rattle.ada_value.specs.Values.{position_of}
 use Rattle.ada_value.specs.Variables.{Object, object_named, value_there}
@@ -39,6 +38,7 @@ use Rattle.replay_runs.proofs.controls.translated.Tables.{form-small}
 use Rattle.replay_runs.proofs.controls.indices.Bounded.{InInteger}
 use Rattle.replay_runs.proofs.controls.indices.Objects.{IsOfInteger, IfScalar, objects-in}
 use Rattle.replay_runs.proofs.controls.indices.Declared.{bodies-inner}
+use Rattle.normal_laws.proofs.structure.typed.Literals.{within-values as between}
 
 -- ---- start and stay
 
@@ -81,10 +81,6 @@ legal_variables_are_added p legal t l k less =
     }
 
 -- ---- values
-
--- a value between two numbers of INTEGER is one
-between : (f l z : ℤ) → is_integer_value f ≡ true → is_integer_value l ≡ true → int_le f z ≡ true → int_le z l ≡ true → is_integer_value z ≡ true
-between f l z a b c d = grind (arith, ints)
 
 kept-in : (o q : Object) → IsOfInteger o → IsKept o q → InInteger (value_there q 0)
 kept-in o q h k = by_value k.value

@@ -65,7 +65,7 @@ offers-abort g n i w x s r q o V k e = record { rests = ap (λ c. steps_at (name
 abbrev truth : Bool → Result Value Raised
 truth b = Ok (Truth b)
 
-either : (b : Bool) → (if b then false else false) ≡ false
+pub either : (b : Bool) → (if b then false else false) ≡ false
 either true = refl
 either false = refl
 

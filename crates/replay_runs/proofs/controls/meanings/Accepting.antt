@@ -1,7 +1,7 @@
 -- What a permit makes of the image of an accept statement of a legal program's normal form.
-use Rattle.std.proofs.Common.{◌≡◌, ℕ, suc, ◌+◌, ◌<◌, ◌≤◌, ℤ, Bool, ◌&&◌, ◌==◌, List, [], ◌∷◌, length, position, option_map, unwrap_or, slice_get, get_or, Option, Some, None, refl, sym, ap, ap₂, ◌∙◌, subst, arith}
+use Rattle.std.proofs.Common.{◌≡◌, ℕ, suc, ◌+◌, ◌<◌, ◌≤◌, ℤ, Bool, ◌&&◌, ◌==◌, List, length, position, option_map, unwrap_or, Option, Some, None, refl, sym, ap, ap₂, ◌∙◌, subst, arith}
 use Rattle.std.specs.Prelude.{pos}
-use Rattle.std.proofs.lemmas.Option.{none-some, slice_get_within, slice_get-get_or}
+use Rattle.std.proofs.lemmas.Option.{none-some, slice_get_within}
 use Rattle.common_lemmas.proofs.Options.{some_same}
 use Rattle.event_machine.specs.declared.Event.{Event}
 use Rattle.ada_tree.specs.declared.naming.NameId.{NameId}
@@ -46,10 +46,7 @@ use Rattle.replay_runs.proofs.controls.indices.Joined.{legal_variables_are_added
 use Rattle.replay_runs.proofs.controls.meanings.Parts.{laws}
 use Rattle.replay_runs.proofs.controls.meanings.Indices.{checked_index, member_checked, static_index_is, index_there, waits_for}
 use Rattle.replay_runs.proofs.controls.meanings.Accepts.{accept_holds}
-
-there-at : {A : Type 0} (xs : List A) (i : ℕ) → i < length xs → (x : A) × (slice_get xs i ≡ Some x)
-there-at [] i l = absurd (omega (arith, l))
-there-at (y ∷ xs) i l = (get_or (y ∷ xs) i y, slice_get-get_or (y ∷ xs) i y l)
+use Rattle.common_lemmas.proofs.Lists.{element_at as there-at}
 
 -- an entry that is found by its name is there
 pub entry-there : (numbers : Numbering) (t : ℕ) (name : NameId) (e : ℕ) → entry_named numbers t name ≡ Some e → (x : EntryInfo) × (entry_at numbers e ≡ Some x)

@@ -52,13 +52,10 @@ use Rattle.replay_runs.specs.controls.meanings.Laws.{HoldsEachPermit}
 use Rattle.replay_runs.proofs.controls.permits.Tests.{tests_of_permits}
 use Rattle.replay_runs.proofs.controls.meanings.Parts.{left, right, holds_behind, stops_there, stored_under, stored_holds, InBranch, in_branch}
 use Rattle.replay_runs.proofs.controls.meanings.Serving.{serve_holds}
+use Rattle.replay_runs.proofs.controls.meanings.Aborts.{either}
 
 abbrev truth : Bool → Result Value Raised
 truth c = Ok (Truth c)
-
-either : (c : Bool) → (if c then false else false) ≡ false
-either true = refl
-either false = refl
 
 -- the permit is for the begin of a rendezvous at this member
 abbrev pub starts : ℕ → ℤ → Permit → Bool

@@ -71,13 +71,10 @@ use Rattle.replay_runs.proofs.controls.meanings.Pairs.{pairs_come, tasks_stay}
 use Rattle.replay_runs.proofs.controls.meanings.Parts.{left, right, laws, holds_behind, stops_there, says_row, says_raising, stored_under, stored_holds, InBranch, in_branch}
 use Rattle.replay_runs.proofs.controls.meanings.Accepting.{index-of, index-after}
 use Rattle.replay_runs.proofs.controls.meanings.Called as eval
+use Rattle.replay_runs.proofs.controls.meanings.Aborts.{either}
 
 abbrev truth : Bool → Result Value Raised
 truth c = Ok (Truth c)
-
-either : (c : Bool) → (if c then false else false) ≡ false
-either true = refl
-either false = refl
 
 -- ---- permits for calls
 

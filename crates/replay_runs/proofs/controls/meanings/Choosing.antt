@@ -37,25 +37,25 @@ is_for ToClose all op = closes op
 
 -- ---- choices
 
-any-none : (xs : List Open) → list_any (λ op. false) xs ≡ false
+pub any-none : (xs : List Open) → list_any (λ op. false) xs ≡ false
 any-none [] = refl
 any-none (x ∷ xs) = any-none xs
 
 -- the choice that an open alternative gives, if it gives one, passes the test
-abbrev chosen : (Choice → Bool) → Option Choice → Bool
+abbrev pub chosen : (Choice → Bool) → Option Choice → Bool
 chosen test None = false
 chosen test (Some c) = test c
 
-one-more : (test : Choice → Bool) (o : Option Choice) (cs : List Choice) → list_any test (cons_option o cs) ≡ (chosen test o || list_any test cs)
+pub one-more : (test : Choice → Bool) (o : Option Choice) (cs : List Choice) → list_any test (cons_option o cs) ≡ (chosen test o || list_any test cs)
 one-more test None cs = refl
 one-more test (Some c) cs = refl
 
-any-choice : (test : Choice → Bool) (c : Open → Option Choice) (f : Open → Bool) → ((op : Open) → chosen test (c op) ≡ f op) → (xs : List Open) → list_any test (filter_map c xs) ≡ list_any f xs
+pub any-choice : (test : Choice → Bool) (c : Open → Option Choice) (f : Open → Bool) → ((op : Open) → chosen test (c op) ≡ f op) → (xs : List Open) → list_any test (filter_map c xs) ≡ list_any f xs
 any-choice test c f same [] = refl
 any-choice test c f same (op ∷ xs) = one-more test (c op) (filter_map c xs) ∙ ap₂ (λ (a b : Bool). a || b) (same op) (any-choice test c f same xs)
 
 -- what of the choices passes a test, part by part
-parts : (test : Choice → Bool) (has_else : Bool) (all : List Open) (a b c d : Bool) → list_any test (filter_map accept_choice all) ≡ a → list_any test (else_choice has_else) ≡ b →
+pub parts : (test : Choice → Bool) (has_else : Bool) (all : List Open) (a b c d : Bool) → list_any test (filter_map accept_choice all) ≡ a → list_any test (else_choice has_else) ≡ b →
     list_any test (filter_map (delay_choice all) all) ≡ c → list_any test (filter_map terminate_choice all) ≡ d → list_any test (choices_of has_else all) ≡ (a || (b || (c || d)))
 parts test has_else all a b c d ea eb ec ed =
     list_any-append test (filter_map accept_choice all) (else_choice has_else ++ (filter_map (delay_choice all) all ++ filter_map terminate_choice all))
@@ -68,7 +68,7 @@ member-chosen e z (Accepts f j head body behind) = refl
 member-chosen e z (Delays n d l) = refl
 member-chosen e z Terminates = refl
 
-no-accept : (test : Choice → Bool) → ((e : ℕ) (z : ℤ) → test (Accept e z) ≡ false) → (op : Open) → chosen test (accept_choice op) ≡ false
+pub no-accept : (test : Choice → Bool) → ((e : ℕ) (z : ℤ) → test (Accept e z) ≡ false) → (op : Open) → chosen test (accept_choice op) ≡ false
 no-accept test none (Accepts f j head body behind) = none f j
 no-accept test none (Delays n d l) = refl
 no-accept test none Terminates = refl
@@ -86,7 +86,7 @@ delay-chosen k all (Accepts f j head body behind) = refl
 delay-chosen k all (Delays n d l) = delay-if (is_delay k) n (list_any (is_shorter d) all)
 delay-chosen k all Terminates = refl
 
-no-delay : (test : Choice → Bool) → ((k : ℕ) → test (Delay k) ≡ false) → (all : List Open) (op : Open) → chosen test (delay_choice all op) ≡ false
+pub no-delay : (test : Choice → Bool) → ((k : ℕ) → test (Delay k) ≡ false) → (all : List Open) (op : Open) → chosen test (delay_choice all op) ≡ false
 no-delay test none all (Accepts f j head body behind) = refl
 no-delay test none all (Delays n d l) = delay-if test n (list_any (is_shorter d) all) ∙ ap (λ c. c && not (list_any (is_shorter d) all)) (none n)
 no-delay test none all Terminates = refl
@@ -96,7 +96,7 @@ close-chosen (Accepts f j head body behind) = refl
 close-chosen (Delays n d l) = refl
 close-chosen Terminates = refl
 
-no-close : (test : Choice → Bool) → test Terminate ≡ false → (op : Open) → chosen test (terminate_choice op) ≡ false
+pub no-close : (test : Choice → Bool) → test Terminate ≡ false → (op : Open) → chosen test (terminate_choice op) ≡ false
 no-close test none (Accepts f j head body behind) = refl
 no-close test none (Delays n d l) = refl
 no-close test none Terminates = none
@@ -105,7 +105,7 @@ else-same : (has_else : Bool) → list_any is_else (else_choice has_else) ≡ ha
 else-same true = refl
 else-same false = refl
 
-no-else : (test : Choice → Bool) → test Else ≡ false → (has_else : Bool) → list_any test (else_choice has_else) ≡ false
+pub no-else : (test : Choice → Bool) → test Else ≡ false → (has_else : Bool) → list_any test (else_choice has_else) ≡ false
 no-else test none true = ap (λ c. c || false) none
 no-else test none false = refl
 

@@ -72,27 +72,28 @@ use Rattle.replay_runs.proofs.controls.translated.Tables.{legal_types_agree}
 use Rattle.replay_runs.proofs.controls.translated.Objects.{permit_is_added}
 use Rattle.replay_runs.proofs.controls.meanings.Pairs.{tasks_stay}
 use Rattle.replay_runs.proofs.controls.meanings.Parts.{left, right, holds_behind, stops_there, says_row, says_raising}
+use Rattle.replay_runs.proofs.controls.meanings.Aborts.{either}
 
 -- ---- the formals of an accept body in front
 
-formals-left : {b : Programs} {fs : List FormalParameter} {bs : List Object} → AreOpen b fs bs → (V : Variables) → drop (length fs) (bs ++ V) ≡ V
+pub formals-left : {b : Programs} {fs : List FormalParameter} {bs : List Object} → AreOpen b fs bs → (V : Variables) → drop (length fs) (bs ++ V) ≡ V
 formals-left none_open V = refl
 formals-left (open_then f o fs os old known h) V = formals-left h V
 
-finals-one : (b : Bool) (o : Object) (vs ws : List Value) → vs ≡ ws → finals_if b o vs ≡ finals_if b o ws
+pub finals-one : (b : Bool) (o : Object) (vs ws : List Value) → vs ≡ ws → finals_if b o vs ≡ finals_if b o ws
 finals-one true o vs ws e = ap (λ us. finals_if true o us) e
 finals-one false o vs ws e = e
 
-finals-same : {b : Programs} {fs : List FormalParameter} {bs : List Object} → AreOpen b fs bs → (V V' : Variables) → finals_in fs (bs ++ V) ≡ finals_in fs (bs ++ V')
+pub finals-same : {b : Programs} {fs : List FormalParameter} {bs : List Object} → AreOpen b fs bs → (V V' : Variables) → finals_in fs (bs ++ V) ≡ finals_in fs (bs ++ V')
 finals-same none_open V V' = refl
 finals-same (open_then f o fs os old known h) V V' = finals-one (comes_back f.mode) o (finals_in fs (os ++ V)) (finals_in fs (os ++ V')) (finals-same h V V')
 
-known-one : (b : Programs) (c : Bool) (o : Object) (vs : List Value) → IsKnown b (value_there o 0) → AreValues b vs → AreValues b (finals_if c o vs)
+pub known-one : (b : Programs) (c : Bool) (o : Object) (vs : List Value) → IsKnown b (value_there o 0) → AreValues b vs → AreValues b (finals_if c o vs)
 known-one b true o vs known h = value_then (value_there o 0) vs known h
 known-one b false o vs known h = h
 
 -- what comes back is of known kinds
-finals-known : {b : Programs} {fs : List FormalParameter} {bs : List Object} → AreOpen b fs bs → (V : Variables) → AreValues b (finals_in fs (bs ++ V))
+pub finals-known : {b : Programs} {fs : List FormalParameter} {bs : List Object} → AreOpen b fs bs → (V : Variables) → AreValues b (finals_in fs (bs ++ V))
 finals-known none_open V = no_value
 finals-known {b} (open_then f o fs os old known h) V = known-one b (comes_back f.mode) o (finals_in fs (os ++ V)) (known.0 0) (finals-known h V)
 
@@ -118,10 +119,6 @@ ten-or-eight false = refl
 few-last : (b : Bool) → (if b then 10 else 8) ≤ 2147483647
 few-last true = omega arith
 few-last false = omega arith
-
-either : (b : Bool) → (if b then false else false) ≡ false
-either true = refl
-either false = refl
 
 wants-end : (t : ℕ) (permit : Permit) → wants t permit Ends ≡ (kind permit == last_kind t)
 wants-end t (ToMeet e i) = apart (t == 0) 1 refl refl

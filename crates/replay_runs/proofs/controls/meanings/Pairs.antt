@@ -100,24 +100,24 @@ is_plain Steps = true
 is_plain (Raises x) = false
 is_plain (At offer) = false
 
-no-call : (f : CallForm) (r : Result Called Raised) → call_stand f r ≡ Steps → ⊥
+pub no-call : (f : CallForm) (r : Result Called Raised) → call_stand f r ≡ Steps → ⊥
 no-call f (Ok c) e = true≢false (sym (ap is_plain e))
 no-call f (Err x) e = true≢false (sym (ap is_plain e))
 
-no-choice : (cs : List Choice) → choices_stand cs ≡ Steps → ⊥
+pub no-choice : (cs : List Choice) → choices_stand cs ≡ Steps → ⊥
 no-choice [] e = true≢false (sym (ap is_plain e))
 no-choice (c ∷ cs) e = true≢false (sym (ap is_plain e))
 
-no-wait : (b : Bool) (r : Result (List Open) Raised) → wait_stand b r ≡ Steps → ⊥
+pub no-wait : (b : Bool) (r : Result (List Open) Raised) → wait_stand b r ≡ Steps → ⊥
 no-wait b (Ok all) e = no-choice (choices_of b all) e
 no-wait b (Err x) e = true≢false (sym (ap is_plain e))
 
-no-name : (r : Result ℕ Raised) → name_stand r ≡ Steps → ⊥
+pub no-name : (r : Result ℕ Raised) → name_stand r ≡ Steps → ⊥
 no-name (Ok x) e = true≢false (sym (ap is_plain e))
 no-name (Err x) e = true≢false (sym (ap is_plain e))
 
 -- a statement with such a step does not synchronize
-plain : (t : Task) (s : PStmt) → stand_at t s ≡ Steps → IsLocal s
+pub plain : (t : Task) (s : PStmt) → stand_at t s ≡ Steps → IsLocal s
 plain t (SNull s) e = local_null s
 plain t (SAssign x y s) e = local_assign x y s
 plain t (SDelay d s) e = local_delay d s
@@ -140,7 +140,7 @@ plain t (SBlock b s) e = local_block b s
 plain t (SLoop w x l s) e = local_loop w x l s
 
 -- no more frames stand outside once those that are over are left
-fewer : (o : List PFrame) (r : PStmts) (q : Around) (V : Variables) → length (settled_in o r q V).outer ≤ length o
+pub fewer : (o : List PFrame) (r : PStmts) (q : Around) (V : Variables) → length (settled_in o r q V).outer ≤ length o
 fewer o (stmt_then s r) q V = omega arith
 fewer [] no_stmt (OwnBody hs taken) V = omega arith
 fewer [] no_stmt (Block hs) V = omega arith
@@ -154,7 +154,7 @@ fewer (part ∷ parts) no_stmt (Loop name turns l) V = omega arith
 fewer (part ∷ parts) no_stmt (Opened caller formals pending) V = omega arith
 
 -- so a frame that is over is not one of them
-not-left : (o : List PFrame) (r : PStmts) (q : Around) (V : Variables) (place : Around) → settled_in o r q V ≡ control no_stmt place (frame r q ∷ o) V → ⊥
+pub not-left : (o : List PFrame) (r : PStmts) (q : Around) (V : Variables) (place : Around) → settled_in o r q V ≡ control no_stmt place (frame r q ∷ o) V → ⊥
 not-left o r q V place e =
     let k = fewer o r q V in
     let n : length (settled_in o r q V).outer ≡ suc (length o) = ap (λ (c : Control). length c.outer) e in omega (arith, k, n)

@@ -31,7 +31,7 @@ use Rattle.replay_runs.specs.controls.Asking.{unit_of_task, HoldsPermit}
 use Rattle.replay_runs.specs.controls.permits.Laws.{FitsInteger, EvaluatesTo, IndexIs, no_index, index_is, TestsOfPermits, BothEvaluate}
 
 -- natural numbers are the same where they are as integers
-same-number : (a b : ℕ) → int_eq (pos a) (pos b) ≡ (a == b)
+pub same-number : (a b : ℕ) → int_eq (pos a) (pos b) ≡ (a == b)
 same-number a b = by_test (a == b) refl
   where
     by_other : (c : Bool) → int_eq (pos a) (pos b) ≡ c → (a == b) ≡ false → c ≡ false

@@ -141,7 +141,7 @@ module _ (old : ℕ → Bool) where
       (formal-same s.types t.types f.mode (marking s f.mark.name) (marking t f.mark.name) (mark-same old s t n f.mark.name o.0)))
       o.1
 
-formals-main : (fs : List PFormal) (s : Scope) → (with_formals s fs).in_main ≡ s.in_main
+pub formals-main : (fs : List PFormal) (s : Scope) → (with_formals s fs).in_main ≡ s.in_main
 formals-main [] s = refl
 formals-main (f ∷ fs) s =
     formals-main fs (with_names (formal_thing f.mode (marking s f.mark.name)) s f.names) ∙ names-main (formal_thing f.mode (marking s f.mark.name)) f.names s

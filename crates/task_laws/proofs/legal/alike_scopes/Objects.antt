@@ -79,7 +79,7 @@ module _ (old : ℕ → Bool) (s t : Scope) (n : SameNames old s t) where
 abbrev pub SameDeclared : Declared → Declared → Type 0
 SameDeclared d d' = SameThing d.types d'.types (Some d.thing) (Some d'.thing)
 
-both-declared : (a b a' b' : Declared) → SameDeclared a' b' → a ≡ a' → b ≡ b' → SameDeclared a b
+pub both-declared : (a b a' b' : Declared) → SameDeclared a' b' → a ≡ a' → b ≡ b' → SameDeclared a b
 both-declared a b a' b' h e f = subst (λ x. SameDeclared x b) (sym e) (subst (SameDeclared a') (sym f) h)
 
 -- an object without a mark

@@ -47,7 +47,7 @@ module _ (old : ℕ → Bool) (s t : Scope) (n : SameNames old s t) where
 -- ---- selectors
 
 -- the values of a selector by the mark of its object
-marked-selector : (s : Scope) (e : PExpr) (m : ℕ) → mark_of_object s e ≡ Some m → selected_range s e ≡ range_of_mark s.types m
+pub marked-selector : (s : Scope) (e : PExpr) (m : ℕ) → mark_of_object s e ≡ Some m → selected_range s e ≡ range_of_mark s.types m
 marked-selector s e m h = rw h refl
 
 -- those of its type

@@ -185,7 +185,7 @@ constants-valued : (s : Scope) (names : List Word) (init : Option PInit) (d : De
     with_constants s names init d ≡ table_with s names init (valued_of d).types (valued_mark (valued_of d).thing)
 constants-valued s names init d = ap (table_with s names init d.types) (mark-valued d.thing)
 
-no_constants : (b : Bool) (T : TypeTable) → (if b then T else T) ≡ T
+pub no_constants : (b : Bool) (T : TypeTable) → (if b then T else T) ≡ T
 no_constants true T = refl
 no_constants false T = refl
 

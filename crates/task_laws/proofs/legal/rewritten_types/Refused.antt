@@ -24,11 +24,11 @@ IsFilled (x ∷ xs) = Unit {0}
 -- ---- one place
 
 -- where a name is declared, it was not used before
-abbrev DeclaresUnused : Scope → Demand → Type 0
+abbrev pub DeclaresUnused : Scope → Demand → Type 0
 DeclaresUnused scope (declares fixed w) = IsUnused scope w
 DeclaresUnused scope _ = Unit {0}
 
-abbrev IsOnce : Site → Type 0
+abbrev pub IsOnce : Site → Type 0
 IsOnce s = DeclaresUnused s.scope s.demand
 
 pub no_word : (test : Bool) (w : Word) → at_word test w ≡ [] → test ≡ false
@@ -43,7 +43,7 @@ unused before scope fixed w e =
     let h = or_parts (is_predefined n || is_among scope.here n) (list_any (fixes n) before) g.0 in
     or_parts (is_predefined n) (is_among scope.here n) h.0
 
-once-demand : (before : List Site) (scope : Scope) (d : Demand) → duplicate before scope d ≡ [] → DeclaresUnused scope d
+pub once-demand : (before : List Site) (scope : Scope) (d : Demand) → duplicate before scope d ≡ [] → DeclaresUnused scope d
 once-demand before scope (declares fixed w) e = unused before scope fixed w e
 once-demand before scope _ e = tt
 
@@ -64,15 +64,15 @@ all-once (x ∷ xs) before e = (
 
 -- ---- one declaration
 
-unused-before : (scope : Scope) (n : ℕ) (w : Word) → IsUnused (record scope { here = n ∷ scope.here }) w → IsUnused scope w
+pub unused-before : (scope : Scope) (n : ℕ) (w : Word) → IsUnused (record scope { here = n ∷ scope.here }) w → IsUnused scope w
 unused-before scope n w h = (h.0, (or_parts (n == w.name.0) (is_among scope.here w.name.0) h.1).1)
 
-names-once : (fixed : Bool) (ws : List Word) (scope : Scope) → AllByRecursion IsOnce (names_sites fixed scope ws) → AllByRecursion (IsUnused scope) ws
+pub names-once : (fixed : Bool) (ws : List Word) (scope : Scope) → AllByRecursion IsOnce (names_sites fixed scope ws) → AllByRecursion (IsUnused scope) ws
 names-once fixed [] scope h = tt
 names-once fixed (w ∷ ws) scope h =
     (h.0, all_weaker _ (IsUnused scope) ws (unused-before scope w.name.0) (names-once fixed ws (record scope { here = w.name.0 ∷ scope.here }) h.1))
 
-decl-once : (d : PDecl) (s : Scope) → AllByRecursion IsOnce (decl_sites s d) → AllByRecursion (IsUnused s) (names_declared d)
+pub decl-once : (d : PDecl) (s : Scope) → AllByRecursion IsOnce (decl_sites s d) → AllByRecursion (IsUnused s) (names_declared d)
 decl-once (DNumber name e sp) s h = (h.0, tt)
 decl-once (DObject names constant shape init sp) s h = names-once _ names s (all_front IsOnce _ _ (all_front IsOnce _ _ h))
 decl-once (DEnumeration name literals sp) s h = names-once true (name ∷ literals) s h
@@ -84,7 +84,7 @@ decl-once (DPragma e sp) s h = tt
 decl-once (DTask t sp) s h = (h.0, tt)
 decl-once (DTaskBody name objects its sp) s h = tt
 
-decls-once : (ds : PDecls) (s : Scope) → AllByRecursion IsOnce (decls_sites s ds) → DeclareOnce s ds
+pub decls-once : (ds : PDecls) (s : Scope) → AllByRecursion IsOnce (decls_sites s ds) → DeclareOnce s ds
 decls-once no_decl s h = tt
 decls-once (decl_then d rest) s h = (decl-once d s (all_front IsOnce (decl_sites s d) _ h), decls-once rest (after_decl s d) (all_back IsOnce (decl_sites s d) _ h))
 

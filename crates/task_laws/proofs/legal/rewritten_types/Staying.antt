@@ -28,14 +28,14 @@ behind-staying (decl_then (DException names sp) rest) s h = absurd h.0
 behind-staying (decl_then (DPragma e sp) rest) s h = absurd h.0
 
 -- the name of a task type means no value
-scalar-no-task : (m k : ℕ) (o : Option Kind) → is_no_task (marking_of_kind m k o) ≡ true
+pub scalar-no-task : (m k : ℕ) (o : Option Kind) → is_no_task (marking_of_kind m k o) ≡ true
 scalar-no-task m k (Some (Array index first last part)) = refl
 scalar-no-task m k (Some Integer) = refl
 scalar-no-task m k (Some Truth) = refl
 scalar-no-task m k (Some (Enumeration names)) = refl
 scalar-no-task m k None = refl
 
-mark-no-task : (T : TypeTable) (m : ℕ) (o : Option Mark) → is_no_task (marking_of_mark T m o) ≡ true
+pub mark-no-task : (T : TypeTable) (m : ℕ) (o : Option Mark) → is_no_task (marking_of_mark T m o) ≡ true
 mark-no-task T m (Some x) = scalar-no-task m x.kind (kind_at T x.kind)
 mark-no-task T m None = refl
 

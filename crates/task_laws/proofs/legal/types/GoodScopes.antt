@@ -103,7 +103,7 @@ in-rest w ws id e h = ap (λ b. b || list_any (λ (x : Word). x.name.0 == id.0) 
 in-first : (w : Word) (ws : List Word) (id : NameId) → (w.name.0 == id.0) ≡ true → IsIn (w ∷ ws) id
 in-first w ws id e = ap (λ b. b || list_any (λ (x : Word). x.name.0 == id.0) ws) e
 
-in-later : (w : Word) (ws : List Word) (id : NameId) → IsIn ws id → IsIn (w ∷ ws) id
+pub in-later : (w : Word) (ws : List Word) (id : NameId) → IsIn ws id → IsIn (w ∷ ws) id
 in-later w ws id h = by_test (w.name.0 == id.0)
   where
     by_test : (b : Bool) → (b || list_any (λ (x : Word). x.name.0 == id.0) ws) ≡ true

@@ -13,12 +13,13 @@ use Rattle.normal_laws.specs.runs.forms.Normalisable.{numbers_of, made_for}
 use Rattle.normal_laws.specs.existence.Laws.{IsLegalOriginal}
 use Rattle.normal_laws.proofs.legality.checks.Facts as facts
 use Rattle.replay_structure.proofs.checkable.Kept.{rules_of}
-use Rattle.replay_structure.proofs.legal.Kept.{main-kept}
+use Rattle.replay_structure.proofs.legal.Keeping.{IsKeeping}
+use Rattle.replay_structure.proofs.legal.Kept.{keeping, main-kept}
 use Rattle.replay_structure.proofs.legal.Declared.{declarations-kept}
 use Rattle.replay_structure.specs.scopes.Names.{old_name}
 use Rattle.replay_structure.proofs.legal.names.form_names.Olds.{new-old, own-old}
 
-every-unlisted : (rules : Rules) (ds : PDecls) → AllByRecursion (EveryDecl rules) (decl_list ds) → EveryDecls rules ds
+pub every-unlisted : (rules : Rules) (ds : PDecls) → AllByRecursion (EveryDecl rules) (decl_list ds) → EveryDecls rules ds
 every-unlisted rules no_decl h = tt
 every-unlisted rules (decl_then d ds) h = (h.0, every-unlisted rules ds h.1)
 
@@ -32,12 +33,15 @@ module _ (p : PProgram) (h : IsLegalOriginal p) where
   olds : (k : ℕ) → own_name p k ≡ true → old k ≡ true
   olds = own-old p (types_in p) (numbers_of p)
 
+  kept : IsKeeping p old
+  kept = keeping p old olds (new-old q)
+
   named : EveryProgram (rules_of old) q
   named = (
     olds p.name.name.0 (facts.olds p h).0,
     tt,
-    every-unlisted (rules_of old) q.decls (declarations-kept p h old olds (new-old q)),
-    main-kept p h old olds (new-old q),
+    every-unlisted (rules_of old) q.decls (declarations-kept p h old kept),
+    main-kept p h old kept,
   )
 
   -- All names are old.

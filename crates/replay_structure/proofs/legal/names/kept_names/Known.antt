@@ -5,14 +5,14 @@ use Rattle.normal_laws.specs.runs.forms.Normalisable.{numbers_of, made_for}
 use Rattle.replay_structure.specs.checked.Around.{kept_name}
 use Rattle.replay_structure.proofs.checkable.KeptNames.{own-kept}
 use Rattle.replay_structure.proofs.legal.known.Known.{known_have_literals}
-use Rattle.replay_structure.proofs.legal.Kept.{new-kept}
+use Rattle.replay_structure.proofs.legal.Kept.{new-kept, keeping}
 use Rattle.replay_structure.proofs.legal.Legal.{replay_is_as_promised}
 use Rattle.replay_structure.specs.legal.names.kept_names.Laws.{LegalIsKept, KnownAreHeld, KnownReplayIsAsPromised}
 use Rattle.replay_structure.proofs.legal.Declared.{declarations-kept}
 
 pub legal_is_kept : LegalIsKept
 legal_is_kept p events h known = record {
-  declared = declarations-kept p h (kept_name (made_for p)) (own-kept p (types_in p) (numbers_of p)) (new-kept p);
+  declared = declarations-kept p h (kept_name (made_for p)) (keeping p (kept_name (made_for p)) (own-kept p (types_in p) (numbers_of p)) (new-kept p));
   few = known.few;
 }
 
