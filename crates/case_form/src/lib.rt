@@ -1,8 +1,9 @@
-//! The form of a transcript of cases: escapes, texts with a name, questions with their answers, and what stands around a whole call.
+//! The form of a transcript of cases: escapes, texts with a name, questions with their answers, what stands around a whole call, and the programs that questions are asked of.
 #![tactic(auto)]
 
 mod escapes;
 pub mod outside;
+pub mod programs;
 mod questions;
 mod stage;
 mod texts;

@@ -8,8 +8,8 @@ ghost use Rattle.syn_event.specs.Legal.{Legal};
 
 use crate::running::no_inputs;
 use ada_tree::Memory;
+use case_form::programs::{Known, put_fault, sequence_of};
 use case_form::{Question, put_comma};
-use case_rules::{Known, put_fault, sequence_of};
 use feasible::{Cause, Judge, Verdict, judge_all};
 use std::alloc::Global;
 use syn_event::{Event, Mode};
@@ -41,7 +41,7 @@ pub enum Judging {
 }
 
 /// `judge_all` and `judge`: the verdict on the question's events, or the verdicts behind each of them, where so many local steps are allowed.
-#[tactic(auto, using(debug_judge::proofs::Giving::nothing_follows))]
+#[tactic(auto, using(crate::proofs::Following::nothing_follows))]
 pub fn judge_question(
     alloc: Global,
     known: &Known,

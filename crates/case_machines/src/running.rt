@@ -3,7 +3,7 @@
 use ada_tree::Memory;
 use ada_value::Inputs;
 use case_form::Question;
-use case_rules::Known;
+use case_form::programs::Known;
 use ded_io::{ListChooser, MemorySink};
 use interp::{RunEnd, RunError, RunReport, run};
 use std::alloc::{AllocError, Global};

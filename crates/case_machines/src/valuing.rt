@@ -2,10 +2,8 @@
 
 use ada_tree::{Kind, Memory, Names, Program, Types};
 use ada_value::{Binding, Raised, Scope, Value, Vars, eval, value_at};
+use case_form::programs::{assigned, program_of, put_name, types_in};
 use case_form::{Question, Text};
-use case_rules::{assigned, types_in};
-use case_texts::expressions::put_name;
-use case_texts::programs::program_of;
 use std::alloc::Global;
 
 /// `value VARIABLES`: the value of the question, an expression, or the exception that it raises, by the types of the frame with `null;` in

@@ -4,10 +4,9 @@ ghost use Rattle.ada_tree.specs.PlainProgram.{plain_program};
 ghost use Rattle.ada_tree.specs.WellPlaced.{IsWellPlaced};
 ghost use Rattle.syn_event.specs.Legal.{Legal};
 
-use crate::numbering::Known;
-use crate::sequences::{put_fault, sequence_of};
 use ada_tree::Memory;
 use case_form::Question;
+use case_form::programs::{Known, put_fault, sequence_of};
 use std::alloc::Global;
 use syn_event::{Event, Mode, Numbers};
 use syn_order::{OrderError, exchangeable};

@@ -9,8 +9,8 @@ mod task_files;
 mod typing;
 
 pub use exchanging::neighbours;
-pub use numbering::{Known, event, known_of, number, numbers, origin};
+pub use numbering::{event, number, numbers, origin};
 pub use scoping::scopes;
-pub use sequences::{put_fault, sequence, sequence_of};
+pub use sequences::sequence;
 pub use task_files::{choices_file, inputs};
-pub use typing::{Told, assigned, static_expression, type_table, types, types_in};
+pub use typing::{Told, static_expression, type_table, types};

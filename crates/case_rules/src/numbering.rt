@@ -1,44 +1,12 @@
 //! The numbers of tasks and entries, the texts of events, and what an event stands for.
 
-ghost use Rattle.std.specs.Prelude.{IfOk, IfSome};
-ghost use Rattle.ada_tree.specs.PlainProgram.{plain_program};
-ghost use Rattle.ada_tree.specs.WellPlaced.{IsWellPlaced};
-ghost use Rattle.syn_event.specs.Legal.{Legal};
-
-use ada_check::{CheckError, Checked, check};
-use ada_parser::ReadError;
-use ada_tree::{Memory, Names, Program};
+use ada_check::{CheckError, check};
+use ada_tree::{Memory, Names};
 use case_form::Question;
-use case_texts::expressions::put_name;
-use case_texts::programs::{answer_refused, program_of};
+use case_form::programs::{Known, answer_refused, program_of, put_name};
 use ded_io::MemorySink;
 use std::alloc::Global;
 use syn_event::{EntryInfo, Event, Mode, Numbers, TaskInfo, back, show};
-
-/// A program that meets the static rules of any text, with what is known of it.
-#[derive(Drop)]
-pub struct Known {
-    /// The tree.
-    pub program: Program,
-    /// Its types and numbers.
-    pub checked: Checked,
-}
-
-/// The program of a text that meets the static rules by a mode, if it does.
-pub fn known_of(alloc: Global, text: &[u8], mode: Mode) -> Result<Option<Known>, Memory>
-    ensures placed { IfOk result (λ found. IfSome found (λ known. IsWellPlaced (plain_program known.program))) }
-    ensures legal { IfOk result (λ found. IfSome found (λ known. Legal (plain_program known.program) known.checked.types known.checked.numbers mode)) }
-{
-    match program_of(alloc, text) {
-        Ok(program) => match check(alloc, &program, mode) {
-            Ok(checked) => Ok(Some(Known { program, checked })),
-            Err(CheckError::Memory) => Err(Memory),
-            Err(_) => Ok(None),
-        },
-        Err(ReadError::Memory) => Err(Memory),
-        Err(_) => Ok(None),
-    }
-}
 
 /// `numbers`: the tasks of the question's program from main on, and its entries with their owners, added ones behind `+`.
 pub fn numbers(alloc: Global, question: &Question<'_>, out: &mut String) -> Result<(), Memory> {

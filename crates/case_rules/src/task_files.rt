@@ -1,9 +1,9 @@
 //! Files of inputs and files of choices.
 
-use crate::numbering::Known;
 use ada_tree::Memory;
 use ada_value::Inputs;
 use case_form::Question;
+use case_form::programs::Known;
 use input_file::{InputError, read_choices, read_inputs};
 use std::alloc::Global;
 

@@ -1,13 +1,10 @@
 //! The first twelve static rules, the types of programs, and the values of static expressions.
 
 use ada_parser::ReadError;
-use ada_tree::{
-    Constant, Expr, Kind, Literals, Mark, Memory, Names, Program, Span, Stmt, StmtKind, Types,
-};
+use ada_tree::{Constant, Kind, Literals, Mark, Memory, Names, Program, Span, Types};
 use ada_types::{TypeError, static_value, types_of};
+use case_form::programs::{assigned, place_of, program_of, put_name};
 use case_form::{Question, Text, put_comma};
-use case_texts::expressions::{place_of, put_name};
-use case_texts::programs::program_of;
 use std::alloc::Global;
 
 /// How the place of a refusal is told.
@@ -227,30 +224,4 @@ fn answer_value(question: &Question<'_>, value: i64, out: &mut String) -> Result
     question.ask(out)?;
     write!(out, "{value}")?;
     Ok(())
-}
-
-/// What the last statement of a program assigns, if it is an assignment.
-pub fn assigned(program: &Program) -> Option<&Expr> {
-    match program.body.stmts.last() {
-        Some(
-            Stmt {
-                kind: StmtKind::Assign { value, .. },
-                ..
-            },
-        ) => Some(value),
-        _ => None,
-    }
-}
-
-/// The types of a text, if it is a program that has types.
-pub fn types_in(alloc: Global, text: &[u8]) -> Result<Option<Types>, Memory> {
-    match program_of(alloc, text) {
-        Ok(program) => match types_of(alloc, &program) {
-            Ok(types) => Ok(Some(types)),
-            Err(TypeError::Memory) => Err(Memory),
-            Err(_) => Ok(None),
-        },
-        Err(ReadError::Memory) => Err(Memory),
-        Err(_) => Ok(None),
-    }
 }

@@ -7,7 +7,5 @@ mod pieces;
 mod trees;
 
 pub use expressions::{Wanted, expression};
-pub use lexing::{answer_fault, line_col, token_message, tokens};
+pub use lexing::{line_col, token_message, tokens};
 pub use naming::names;
-pub use pieces::place_of;
-pub use trees::put_name;

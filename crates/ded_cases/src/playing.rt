@@ -3,12 +3,13 @@
 use crate::calling::{call_question, put_call, text_question};
 use ada_tree::Memory;
 use case_form::outside::{choices, loads, seeded, sink};
+use case_form::programs::known_of;
 use case_form::{Failing, Question, Stage, Text, expand, text_named};
 use case_machines::rewritings::normal_question;
 use case_machines::{Judging, judge_question, run_question, value};
 use case_rules::{
-    Told, choices_file, event, inputs, known_of, neighbours, number, numbers, origin, scopes,
-    sequence, static_expression, type_table, types,
+    Told, choices_file, event, inputs, neighbours, number, numbers, origin, scopes, sequence,
+    static_expression, type_table, types,
 };
 use case_texts::expressions::{Wanted, expression, line_col, names, token_message, tokens};
 use case_texts::programs::{fronts, message, print_question, printed_len, read, text_message};

@@ -4,7 +4,7 @@ use ada_check::{CheckError, check};
 use ada_parser::ReadError;
 use ada_tree::{Memory, Program};
 use ada_tree_same::TreeSame;
-use case_texts::programs::program_of;
+use case_form::programs::program_of;
 use normal_form::normal_numbers;
 use std::alloc::Global;
 use syn_event::{Mode, Numbers};

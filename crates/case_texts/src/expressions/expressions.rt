@@ -1,6 +1,5 @@
 //! Expressions and what is built of them, read from the tokens of a question up to a depth.
 
-use crate::expressions::lexing::answer_fault;
 use crate::expressions::pieces::items_of;
 use crate::expressions::trees::{put_call, put_choice, put_expr, put_range, put_target};
 use ada_expr_parser::{
@@ -8,6 +7,7 @@ use ada_expr_parser::{
 };
 use ada_printer::{expr_len, print_expr};
 use ada_tree::{Call, CaseChoice, Drange, Expr, Memory, Names, Target};
+use case_form::programs::answer_fault;
 use case_form::{Question, put_escaped};
 use ded_io::MemorySink;
 use std::alloc::Global;

@@ -1,27 +1,11 @@
 //! The tokens of a text, and places in it.
 
-use crate::expressions::pieces::{place_of, tokens_of};
-use ada_lexer::{LexError, Token, TokenKind};
+use crate::expressions::pieces::tokens_of;
+use ada_lexer::{Token, TokenKind};
 use ada_tree::Memory;
 use case_form::Question;
+use case_form::programs::{answer_fault, place_of};
 use std::alloc::Global;
-
-/// Writes a question with a mark at the fault of its tokens.
-pub fn answer_fault(
-    question: &Question<'_>,
-    fault: LexError,
-    out: &mut String,
-) -> Result<(), Memory> {
-    let (answer, at) = match fault {
-        LexError::BadByte { at } => ("BadByte", at),
-        LexError::OpenString { at } => ("OpenString", at),
-        LexError::BadNumber { at } => ("BadNumber", at),
-        LexError::TooLong { at } => ("TooLong", at),
-        LexError::Memory => return Err(Memory),
-    };
-    question.answer_at(out, answer, at)?;
-    Ok(())
-}
 
 /// `tokens` and `token_places`: the kinds of the question's tokens, with their places where these are asked for, or the first fault.
 pub fn tokens(

@@ -1,7 +1,7 @@
-//! Texts, as far as they are short enough for 32 bits, and their tokens, places and items.
+//! Texts, as far as they are short enough for 32 bits, and their tokens and items.
 
 use ada_expr_parser::{Items, read_items};
-use ada_lexer::{LexError, LineCol, Token, line_col, tokens};
+use ada_lexer::{LexError, Token, tokens};
 use ada_tree::Memory;
 use std::alloc::Global;
 
@@ -11,15 +11,6 @@ pub fn tokens_of(alloc: Global, text: &[u8]) -> Result<Vec<Token>, LexError> {
         tokens(alloc, text)
     } else {
         Err(LexError::Memory)
-    }
-}
-
-/// The line and the column of a place.
-pub fn place_of(text: &[u8], at: u32) -> LineCol {
-    if text.len() < 0xFFFF_FFFF {
-        line_col(text, at)
-    } else {
-        LineCol { line: 0, col: 0 }
     }
 }
 

@@ -1,15 +1,7 @@
 //! The trees of expressions and of what is built of them, with operators before their operands, brackets around indices
 //! and braces for the parentheses of the text.
 
-use ada_tree::{
-    Bounds, Call, CaseChoice, Drange, Expr, ExprKind, Memory, NameId, Names, Target, Word,
-};
-
-// The text of a name.
-pub fn put_name(names: &Names, name: NameId, out: &mut String) -> Result<(), Memory> {
-    out.push_str(names.text(name).unwrap_or("?"))?;
-    Ok(())
-}
+use ada_tree::{Bounds, Call, CaseChoice, Drange, Expr, ExprKind, Memory, Names, Target, Word};
 
 // The mark and the word of an attribute.
 fn put_attribute(mark: Word, word: Word, names: &Names, out: &mut String) -> Result<(), Memory> {

@@ -1,10 +1,10 @@
 //! What errors say: those of texts, and those that no other question can bring about.
 
-use crate::programs::programs::program_of;
 use ada_lexer::LexError;
 use ada_parser::ReadError;
 use ada_tree::Memory;
 use case_form::Question;
+use case_form::programs::program_of;
 use ded_io::{LoadError, SinkError};
 use std::alloc::Global;
 

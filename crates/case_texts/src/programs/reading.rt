@@ -1,30 +1,15 @@
 //! What is read of a text, and what is printed of it.
 
-use crate::expressions::answer_fault;
-use crate::programs::programs::program_of;
 use ada_parser::ReadError;
 use ada_printer::{print, text_len};
 use ada_tree::{Memory, Program};
+use case_form::programs::{answer_refused, program_of};
 use case_form::{Question, put_escaped};
 use ded_io::MemorySink;
 use std::alloc::Global;
 
 // The room for what is printed of a question.
 const ROOM: u64 = 20_000;
-
-/// Answers why the question's text is no program, at the place.
-pub fn answer_refused(
-    question: &Question<'_>,
-    error: ReadError,
-    out: &mut String,
-) -> Result<(), Memory> {
-    match error {
-        ReadError::Lex(fault) => answer_fault(question, fault, out),
-        ReadError::Syntax { at } => Ok(question.answer_at(out, "Syntax", at)?),
-        ReadError::TooDeep { at } => Ok(question.answer_at(out, "TooDeep", at)?),
-        ReadError::Memory => Err(Memory),
-    }
-}
 
 /// `read`: whether the question's text is a program, and where it is not.
 pub fn read(alloc: Global, question: &Question<'_>, out: &mut String) -> Result<(), Memory> {

@@ -4,7 +4,7 @@ use Rattle.std.specs.Prelude.{◌<◌, ◌-◌, ◌^◌, vec_len}
 use Rattle.ada_tree.specs.PlainProgram.{plain_program}
 use Rattle.seq_file.specs.Files.{SeqReads, NothingFollowsEnd}
 use Rattle.seq_file.proofs.MainNames.{main_is_upper}
-use Rattle.case_rules.proofs.sequences.sequence_of.Goals as goal
+use Rattle.case_form.proofs.programs.sequences.sequence_of.Goals as goal
 
 pub read_seq-requires-clause-name : goal.read_seq-requires-clause-name
 read_seq-requires-clause-name c = main_is_upper (plain_program c.args.known.now.program) c.args.known.now.checked.types c.args.known.now.checked.numbers c.args.mode c.requires.placed c.requires.legal
