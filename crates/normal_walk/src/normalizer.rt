@@ -61,6 +61,7 @@ impl<'a> Rewriter for Normalizer<'a> {
         let number = number_of(track.decls.len())?;
         enter_alternative(self.alloc, self.lookups, self.task, track, alt)?;
         let meanings = NormalMeanings {
+            alloc: self.alloc,
             lookups: self.lookups,
             members: self.members,
             names: &track.names,
@@ -71,6 +72,7 @@ impl<'a> Rewriter for Normalizer<'a> {
 
     fn leave_alternative(&self, track: &Track, number: u32, alt: &mut Alt) -> Result<(), Memory> {
         let meanings = NormalMeanings {
+            alloc: self.alloc,
             lookups: self.lookups,
             members: self.members,
             names: &track.names,
@@ -86,6 +88,7 @@ impl<'a> Rewriter for Normalizer<'a> {
         out: &mut Vec<Stmt>,
     ) -> Result<(), Memory> {
         let meanings = NormalMeanings {
+            alloc: self.alloc,
             lookups: self.lookups,
             members: self.members,
             names: &track.names,

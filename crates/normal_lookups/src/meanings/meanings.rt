@@ -7,10 +7,12 @@ use crate::meanings::array_members::Members;
 use crate::names::NormalNames;
 use crate::pieces::{Meanings, Member};
 use ada_tree::{Call, Callee, Expr, Memory, NameId, ParMode};
+use std::alloc::Global;
 
 /// A program with what its normal form asks of it and the names that it has so far.
 #[derive(Clone, Copy, Drop)]
 pub struct NormalMeanings<'a> {
+    pub alloc: Global,
     pub lookups: &'a Lookups<'a>,
     pub members: &'a Members,
     pub names: &'a NormalNames,
@@ -24,7 +26,7 @@ impl<'a> Meanings for NormalMeanings<'a> {
     ghost fits = { λ m. AreMeanings m.lookups.now m.names.now m.members.now };
 
     fn variable(&self, number: u32) -> Result<NameId, Memory> {
-        self.names.variable(number)
+        self.names.variable(self.alloc, number)
     }
 
     fn is_static(&self, expr: &Expr) -> bool {

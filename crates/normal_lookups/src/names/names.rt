@@ -48,26 +48,51 @@ impl NormalNames {
         Ok(())
     }
 
-    /// The name of the variable of a number from 0. One behind those that have a name gets it now; for one further behind there is none.
+    // The name of a variable that has one.
+    fn given(&self, number: u32) -> NameId
+        requires { number < length self.now.variables.items }
+        ensures { (g : Setting) → AreNamesOf g self.now → result ≡ variable_name g number }
+    {
+        self.variables[number as usize]
+    }
+
+    /// The name of the variable of a number from 0. It gets one now where it has none, and so does each before it.
     pub fn declare(&mut self, alloc: Global, number: u32) -> Result<NameId, Memory>
         ensures id { IfOk result (λ id. (g : Setting) → AreNamesOf g self.old → id ≡ variable_name g number) }
         ensures names { OnOk result ((g : Setting) → AreNamesOf g self.old → AreNamesOf g self.new) }
         ensures count { OnOk result (length self.new.variables.items ≡ max (length self.old.variables.items) (number + 1)) }
     {
-        if self.variables.len() == number as usize {
-            self.add(alloc, number)?;
+        while self.variables.len() <= number as usize {
+            let next = self.variables.len() as u32;
+            self.add(alloc, next)?;
         }
-        self.variable(number)
+        Ok(self.given(number))
     }
 
-    /// The name of the variable of a number from 0, where it has one; else there is none.
-    pub fn variable(&self, number: u32) -> Result<NameId, Memory>
-        ensures id { IfOk result (λ id. (g : Setting) → AreNamesOf g self.now → id ≡ variable_name g number) }
-        ensures given { OnOk result (number < length self.now.variables.items) }
+    // A copy, in which all names have the same ids.
+    fn copy(&self, alloc: Global) -> Result<NormalNames, Memory>
+        ensures { IfOk result (λ names. (g : Setting) → AreNamesOf g self.now → AreNamesOf g names) }
+    {
+        let names = self.names.copy(alloc)?;
+        let tasks = self.tasks.to_vec(alloc)?;
+        let variables = self.variables.to_vec(alloc)?;
+        Ok(NormalNames {
+            names,
+            tasks,
+            variables,
+        })
+    }
+
+    /// The name of the variable of a number from 0: the one that it has, or the one that it would get now, for which all names are copied.
+    pub fn variable(&self, alloc: Global, number: u32) -> Result<NameId, Memory>
+        ensures { IfOk result (λ id. (g : Setting) → AreNamesOf g self.now → id ≡ variable_name g number) }
     {
         match self.variables.get(number as usize) {
             Some(id) => Ok(*id),
-            None => Err(Memory),
+            None => {
+                let mut names = self.copy(alloc)?;
+                names.declare(alloc, number)
+            }
         }
     }
 

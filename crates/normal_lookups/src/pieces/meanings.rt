@@ -36,7 +36,7 @@ pub trait Meanings {
 
     ghost fits: { Self → Type 0 };
 
-    /// The name of the variable of a number, from 0. There is none where the variable was not made.
+    /// The name of the variable of a number, from 0.
     fn variable(&self, number: u32) -> Result<NameId, Memory>
         requires { fits self.now }
         ensures { IfOk result (λ id. id ≡ variable_name (setting self.now) number) };
