@@ -2,6 +2,7 @@
 //! and braces for the parentheses of the text.
 
 use ada_tree::{Bounds, Call, CaseChoice, Drange, Expr, ExprKind, Memory, Names, Target, Word};
+use case_form::programs::put_name;
 
 // The mark and the word of an attribute.
 fn put_attribute(mark: Word, word: Word, names: &Names, out: &mut String) -> Result<(), Memory> {

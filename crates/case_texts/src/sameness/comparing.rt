@@ -1,10 +1,11 @@
 //! Programs that are the same, and copies of programs.
 
-use crate::programs::{answer_refused, printed, program_of};
+use crate::programs::printed;
 use crate::sameness::outlining::{put_outline, put_same};
 use ada_tree::{Body, Memory, Names, Program, Span, Stmt, StmtKind, Word};
 use ada_tree_copy::TreeCopy;
 use ada_tree_same::TreeSame;
+use case_form::programs::{answer_refused, program_of};
 use case_form::{Question, Text, ask};
 use std::alloc::{AllocError, Global};
 

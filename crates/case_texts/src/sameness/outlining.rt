@@ -1,10 +1,10 @@
 //! Outlines of programs, with whether what is printed is read as the same.
 
-use crate::expressions::put_name;
-use crate::programs::{answer_refused, printed, program_of};
+use crate::programs::printed;
 use ada_tree::{Memory, Program};
 use ada_tree_same::TreeSame;
 use case_form::Question;
+use case_form::programs::{answer_refused, program_of, put_name};
 use std::alloc::Global;
 
 /// `outline`: the name of the question's program, whether it has the context clauses, how many declarations and statements it has, and
